@@ -1,7 +1,7 @@
 /* Stands before the C library (LD_PRELOAD), and lets one call of a program fail. The environment names it by its number:
    REFUSED=N    the Nth request for memory gets none;
    FAILED=N     the Nth call that opens, locks, reads, writes, seeks, stores, links, renames, removes, gives a
-                length, an owner or a mode, or asks what stands at a path, fails with EIO;
+                length, an owner, a mode or a time, or asks what stands at a path, fails with EIO;
    SHORTENED=N  the Nth read or write of more than one byte is of one byte alone.
    Descriptor 9 is told which call it was, and of what. The calls of several threads aren't counted apart. */
 #define _GNU_SOURCE
@@ -62,6 +62,9 @@ int ftruncate(int f, off_t n) { REAL(ftruncate); return FAILS(ftruncate, of(f)) 
 int fsync(int f) { REAL(fsync); return FAILS(fsync, of(f)) ? -1 : real(f); }
 int fchmod(int f, mode_t mode) { REAL(fchmod); return FAILS(fchmod, of(f)) ? -1 : real(f, mode); }
 int fchown(int f, uid_t u, gid_t g) { REAL(fchown); return FAILS(fchown, of(f)) ? -1 : real(f, u, g); }
+int lchown(const char *p, uid_t u, gid_t g) { REAL(lchown); return FAILS(lchown, p) ? -1 : real(p, u, g); }
+int futimens(int f, const struct timespec t[2]) { REAL(futimens); return FAILS(futimens, of(f)) ? -1 : real(f, t); }
+int symlink(const char *a, const char *b) { REAL(symlink); return FAILS(symlink, b) ? -1 : real(a, b); }
 int link(const char *a, const char *b) { REAL(link); return FAILS(link, b) ? -1 : real(a, b); }
 int unlink(const char *path) { REAL(unlink); return FAILS(unlink, path) ? -1 : real(path); }
 int rename(const char *a, const char *b) { REAL(rename); return FAILS(rename, b) ? -1 : real(a, b); }

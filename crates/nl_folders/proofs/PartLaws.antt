@@ -1,5 +1,5 @@
 -- What lies below a path, by look-ups.
-use Rattle.std.proofs.Common.{◌≡◌, true, false, cond, [], ◌∷◌, ◌++◌, map, filter, length, drop, Some, refl, sym, ap, ◌∙◌}
+use Rattle.std.proofs.Common.{◌≡◌, true, false, cond, List, [], ◌∷◌, ◌++◌, map, filter, length, drop, Some, refl, sym, ap, ◌∙◌}
 use Rattle.std.specs.Ordering.{is_eq}
 use Rattle.std.specs.FinMap.{find}
 use Rattle.nl_types.specs.Paths.{Path, path_cmp, same_path, is_within}
@@ -30,15 +30,15 @@ parts_are_exact (e ∷ tree) top path =
     ] refl
 
 -- the part of entries one after another
-pub part_below-append : (one other : Tree) (top : Path)
+pub part_below-append : {X : Type 0} (one other : List (Path × X)) (top : Path)
     → part_below (one ++ other) top ≡ part_below one top ++ part_below other top
 part_below-append [] other top = refl
-part_below-append (e ∷ one) other top =
+part_below-append {X} (e ∷ one) other top =
     elim (is_within top e.0) as (λ b.
     map (λ x. (drop (length top) x.0, x.1)) (cond b (e ∷ filter (λ x. is_within top x.0) (one ++ other))
     (filter (λ x. is_within top x.0) (one ++ other)))
     ≡ map (λ x. (drop (length top) x.0, x.1)) (cond b (e ∷ filter (λ x. is_within top x.0) one)
     (filter (λ x. is_within top x.0) one)) ++ part_below other top) [
-      | true ↦ ap (λ (t : Tree). (drop (length top) e.0, e.1) ∷ t) (part_below-append one other top)
+      | true ↦ ap (λ (t : List (Path × X)). (drop (length top) e.0, e.1) ∷ t) (part_below-append one other top)
       | false ↦ part_below-append one other top
     ]

@@ -65,38 +65,33 @@ pub fn is_same_node(a: &Node, b: &Node) -> bool
     }
 }
 
-fn copied_node(alloc: Global, node: &Node) -> Result<Node, AllocError>
-    ensures { IfOk result (λ copy. copy ≡ node.now) }
-{
-    match node {
-        Node::Dir => Ok(Node::Dir),
-        Node::File(bytes) => Ok(Node::File(Items::from_slice(alloc, bytes.as_slice())?)),
-    }
-}
-
 /// Adds an entry, if it lies at a path or below it.
-fn add_below(
+fn add_below<T: Drop>(
     alloc: Global,
-    entry: &(Path, Node),
+    entry: (Path, T),
     top: &[Name],
-    part: &mut Tree,
+    part: &mut Items<(Path, T)>,
 ) -> Result<(), AllocError>
-    ensures { OnOk result (part.new ≡ part.old ++ part_below (entry.now ∷ []) top.now) }
+    ensures { OnOk result (part.new ≡ part.old ++ part_below (entry ∷ []) top.now) }
 {
-    let path = entry.0.as_slice();
-    if begins_with(path, top) {
-        let rest = copied(alloc, &path[top.len()..])?;
-        part.push((rest, copied_node(alloc, &entry.1)?))?;
+    let (path, node) = entry;
+    if !begins_with(path.as_slice(), top) {
+        return Ok(());
     }
-    Ok(())
+    let rest = copied(alloc, &path.as_slice()[top.len()..])?;
+    part.push((rest, node))
 }
 
 /// The entries that lie at a path or below it, with what is left of their paths there.
-pub fn part_below(alloc: Global, entries: &[(Path, Node)], top: &[Name]) -> Result<Tree, AllocError>
-    ensures { IfOk result (λ part. part ≡ part_below entries.now top.now) }
+pub fn part_below<T: Drop>(
+    alloc: Global,
+    entries: Items<(Path, T)>,
+    top: &[Name],
+) -> Result<Items<(Path, T)>, AllocError>
+    ensures { IfOk result (λ part. part ≡ part_below entries top.now) }
 {
     let mut part = Items::new(alloc);
-    for entry in entries {
+    for entry in entries.into_vec() {
         add_below(alloc, entry, top, &mut part)?;
     }
     Ok(part)

@@ -1,12 +1,10 @@
 -- Paths of the host, name by name.
 use Rattle.std.proofs.Common.{◌≡◌, ℕ, ◌+◌, ◌<◌, true, cond, List, [], ◌∷◌, ◌++◌, length, take, drop, get_or, refl, sym, ap, ◌∙◌, append_assoc, append-nil, arith}
 use Rattle.std.proofs.lemmas.List.{at_drop_more, take_more}
-use Rattle.nl_types.specs.declared.reply.Node.{Node}
 use Rattle.nl_types.specs.Characters.{slash}
 use Rattle.nl_types.specs.Paths.{Name, Path}
-use Rattle.nl_types.specs.Trees.{Tree}
 use Rattle.nl_folders.specs.Spelled.{joined}
-use Rattle.nl_host.specs.HostPaths.{Told, all_left_out, host_names, is_host_name, left_out_at}
+use Rattle.nl_host.specs.HostPaths.{host_names, is_host_name}
 
 pub joined-push : (names : Path) (name : Name) → joined (names ++ name ∷ []) ≡ joined names ++ slash ∷ name
 joined-push [] name = append-nil (slash ∷ name)
@@ -42,32 +40,3 @@ names_more path i n lt is may so_far =
     ∙ ap (λ (m : Name). host_names (m ∷ drop (i + 1) path)) (sym is)
     ∙ ap (λ b. cond b (rest + 1) 0) may in
     omega arith
-
--- ---- what isn't laid out
-
-all_left_out-append : (folder : List ℕ) (one other : Tree)
-    → all_left_out folder (one ++ other) ≡ all_left_out folder one ++ all_left_out folder other
-all_left_out-append folder [] other = refl
-all_left_out-append folder (e ∷ one) other =
-    ap (λ (rest : List Told). left_out_at folder e.0 ++ rest) (all_left_out-append folder one other)
-    ∙ sym (append_assoc (left_out_at folder e.0) (all_left_out folder one) (all_left_out folder other))
-
-all_left_out-push : (folder : List ℕ) (entries : Tree) (e : Path × Node)
-    → all_left_out folder (entries ++ e ∷ []) ≡ all_left_out folder entries ++ left_out_at folder e.0
-all_left_out-push folder entries e =
-    all_left_out-append folder entries (e ∷ [])
-    ∙ ap (λ (rest : List Told). all_left_out folder entries ++ rest) (append-nil (left_out_at folder e.0))
-
--- with one more entry
-pub left_out_more : (folder : List ℕ) (entries : Tree) (i : ℕ) (e : Path × Node) (old now new : List Told)
-    → i < length entries → e ≡ get_or entries i e → now ≡ old ++ all_left_out folder (take i entries)
-    → new ≡ now ++ left_out_at folder e.0 → new ≡ old ++ all_left_out folder (take (i + 1) entries)
-left_out_more folder entries i e old now new lt is so_far one =
-    let before = all_left_out folder (take i entries) in
-    let more : all_left_out folder (take (i + 1) entries) ≡ before ++ left_out_at folder e.0 =
-    ap (all_left_out folder) (take_more entries i e lt)
-    ∙ ap (λ (f : Path × Node). all_left_out folder (take i entries ++ f ∷ [])) (sym is)
-    ∙ all_left_out-push folder (take i entries) e in
-    one ∙ ap (λ (told : List Told). told ++ left_out_at folder e.0) so_far
-    ∙ append_assoc old before (left_out_at folder e.0)
-    ∙ ap (λ (told : List Told). old ++ told) (sym more)

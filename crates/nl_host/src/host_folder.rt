@@ -1,11 +1,13 @@
 //! A folder of the host, read.
 ghost use Rattle.std.specs.Prelude.{◌≡◌, []};
 
+use crate::attributes::attributes_of;
 use crate::host_paths::host_path;
 use crate::left_out::{LeftOut, Reason, TooBig};
 use crate::selection::{Selection, is_reserved};
-use nl_folders::{Folder, FolderError, Name};
-use nl_types::{Items, Kind, Named, VolError};
+use nl_folders::{FolderError, Name};
+use nl_manifests::Attributes;
+use nl_types::{Items, VolError};
 use std::alloc::Global;
 use std::fs::{DirEntry, Metadata, OpenFile};
 use std::io::{ErrorKind, Read};
@@ -22,6 +24,9 @@ const MOST_BYTES_IN_ALL: u64 = 268_435_456;
 /// The most bytes of a path in a volume, the slash in front counted.
 const MOST_PATH_BYTES: usize = 4095;
 
+/// How many bytes the path of a manifest has behind that of its directory.
+const MANIFEST_BYTES: usize = 8;
+
 /// A folder of the host. Links aren't followed. What can't be kept is left out and noted.
 #[derive(Drop)]
 pub struct HostFolder<'a, R: Files> {
@@ -30,6 +35,8 @@ pub struct HostFolder<'a, R: Files> {
     pub root: &'a str,
     /// What of it is passed over.
     pub selection: Selection<'a>,
+    /// Whether names and bytes alone are kept.
+    pub is_plain: bool,
     /// What is left out, in the order in which it was found.
     pub left_out: Vec<LeftOut>,
     /// Files that no volume takes. They are left out too.
@@ -40,12 +47,38 @@ pub struct HostFolder<'a, R: Files> {
     pub failed_at: Option<String>,
 }
 
+/// What stands under a name in a folder.
+#[derive(Clone, Copy, PartialEq, Eq)]
+pub(crate) enum Kind {
+    Directory,
+    File,
+    Link,
+}
+
 /// What is done with something in a folder.
 enum Judged {
     Kept(Kind),
     LeftOut(Reason),
     TooBig(u64),
     Excluded,
+}
+
+/// Something in a folder that is kept.
+#[derive(Drop)]
+pub(crate) struct Found {
+    pub(crate) name: Name,
+    pub(crate) kind: Kind,
+    /// As the listing told them. None where none are kept.
+    pub(crate) attributes: Option<Attributes>,
+}
+
+/// What was read of a file.
+#[derive(Drop)]
+pub(crate) struct FileRead {
+    pub(crate) bytes: Vec<u8>,
+    pub(crate) attributes: Attributes,
+    /// Whether it stayed as it was meanwhile.
+    is_same: bool,
 }
 
 /// What tells one state of a file from another.
@@ -66,9 +99,15 @@ fn state_of(metadata: &Metadata) -> State {
 
 impl<'a, R: AllocGlobal + Files + Clone + Drop> HostFolder<'a, R> {
     /// The folder at a path, in which no link is to be followed any more.
-    pub fn new(files: &'a R, root: &'a str, selection: Selection<'a>) -> HostFolder<'a, R>
+    pub fn new(
+        files: &'a R,
+        root: &'a str,
+        selection: Selection<'a>,
+        is_plain: bool,
+    ) -> HostFolder<'a, R>
         ensures root { result.root.now ≡ root.entry.now }
         ensures selection { result.selection ≡ selection.entry }
+        ensures plain { result.is_plain ≡ is_plain }
         ensures left_out { result.left_out.items ≡ [] }
         ensures too_big { result.too_big.items ≡ [] }
         ensures bytes { result.bytes ≡ 0 }
@@ -79,6 +118,7 @@ impl<'a, R: AllocGlobal + Files + Clone + Drop> HostFolder<'a, R> {
             files,
             root,
             selection,
+            is_plain,
             left_out: Vec::new(alloc),
             too_big: Vec::new(alloc),
             bytes: 0,
@@ -122,15 +162,18 @@ impl<'a, R: AllocGlobal + Files + Clone + Drop> HostFolder<'a, R> {
         match kind {
             Kind::Directory => fs::read_dir(self.files, path).is_ok(),
             Kind::File => fs::open(self.files, path).is_ok(),
+            Kind::Link => true,
         }
     }
 
-    /// What is done with a file or folder, by what is told of it.
+    /// What is done with what stands somewhere, by what is told of it.
     fn judge_kind(&self, path: &str, metadata: &Metadata) -> Judged {
         let kind = if metadata.is_dir() {
             Kind::Directory
         } else if metadata.is_file() {
             Kind::File
+        } else if metadata.is_symlink() && !self.is_plain {
+            Kind::Link
         } else if metadata.is_symlink() {
             return Judged::LeftOut(Reason::Link);
         } else {
@@ -146,6 +189,17 @@ impl<'a, R: AllocGlobal + Files + Clone + Drop> HostFolder<'a, R> {
         }
     }
 
+    /// How many bytes the longest path has that something at a path needs, the slash in front counted: a
+    /// directory needs that of its manifest too.
+    fn path_bytes(&self, below: &str, metadata: &Metadata) -> usize {
+        let count = below.len().saturating_add(1);
+        if metadata.is_dir() && !self.is_plain {
+            count.saturating_add(MANIFEST_BYTES)
+        } else {
+            count
+        }
+    }
+
     fn judge(&self, folder: &str, path: &str, name: &str, metadata: &Metadata) -> Judged {
         let below = self.below(path);
         if self.selection.excludes(below, name) {
@@ -157,10 +211,19 @@ impl<'a, R: AllocGlobal + Files + Clone + Drop> HostFolder<'a, R> {
         if is_reserved(name) {
             return Judged::LeftOut(Reason::Reserved);
         }
-        if below.len() >= MOST_PATH_BYTES {
+        if self.path_bytes(below, metadata) > MOST_PATH_BYTES {
             return Judged::LeftOut(Reason::LongPath);
         }
         self.judge_kind(path, metadata)
+    }
+
+    /// The attributes that are kept of a file.
+    fn kept_attributes(&self, metadata: &Metadata) -> Option<Attributes> {
+        if self.is_plain {
+            None
+        } else {
+            Some(attributes_of(metadata))
+        }
     }
 
     fn keep(
@@ -168,15 +231,16 @@ impl<'a, R: AllocGlobal + Files + Clone + Drop> HostFolder<'a, R> {
         alloc: Global,
         name: &str,
         kind: Kind,
-        size: u64,
-        names: &mut Vec<Named>,
+        metadata: &Metadata,
+        all: &mut Vec<Found>,
     ) -> Result<(), FolderError> {
         if kind == Kind::File {
-            self.bytes = self.bytes.saturating_add(size);
+            self.bytes = self.bytes.saturating_add(metadata.len());
         }
-        names.push(Named {
+        all.push(Found {
             name: Items::from_slice(alloc, name.as_bytes())?,
             kind,
+            attributes: self.kept_attributes(metadata),
         })?;
         Ok(())
     }
@@ -186,7 +250,7 @@ impl<'a, R: AllocGlobal + Files + Clone + Drop> HostFolder<'a, R> {
         alloc: Global,
         folder: &str,
         entry: &DirEntry<R>,
-        names: &mut Vec<Named>,
+        all: &mut Vec<Found>,
     ) -> Result<(), FolderError> {
         let path = entry.path();
         let path = path.as_str();
@@ -195,7 +259,7 @@ impl<'a, R: AllocGlobal + Files + Clone + Drop> HostFolder<'a, R> {
             return self.leave_out(path, Reason::Unread);
         };
         match self.judge(folder, path, name, &metadata) {
-            Judged::Kept(kind) => self.keep(alloc, name, kind, metadata.len(), names),
+            Judged::Kept(kind) => self.keep(alloc, name, kind, &metadata, all),
             Judged::LeftOut(reason) => self.leave_out(path, reason),
             Judged::TooBig(size) => {
                 let path = String::from_str(alloc, path)?;
@@ -206,73 +270,104 @@ impl<'a, R: AllocGlobal + Files + Clone + Drop> HostFolder<'a, R> {
         }
     }
 
-    /// The names in a folder that are kept, in no order.
-    fn names(&mut self, alloc: Global, folder: &str) -> Result<Vec<Named>, FolderError> {
-        let mut names = Vec::new(alloc);
+    /// What is kept in a folder, in no order.
+    fn all_in(&mut self, alloc: Global, folder: &str) -> Result<Vec<Found>, FolderError> {
+        let mut all = Vec::new(alloc);
         let entries = match fs::read_dir(self.files, folder) {
             Ok(entries) => entries,
             Err(error) => return Err(self.fault(String::from_str(alloc, folder)?, &error)),
         };
         for entry in entries {
             match entry {
-                Ok(entry) => self.add(alloc, folder, &entry, &mut names)?,
+                Ok(entry) => self.add(alloc, folder, &entry, &mut all)?,
                 Err(error) if error.kind() == ErrorKind::InvalidFilename => {
                     self.leave_out(folder, Reason::NameNoText)?;
                 }
                 Err(error) => return Err(self.fault(String::from_str(alloc, folder)?, &error)),
             }
         }
-        Ok(names)
+        Ok(all)
     }
 
-    /// The bytes of a file, and whether it stayed as it was meanwhile.
-    fn bytes_once(&self, alloc: Global, path: &str) -> io::Result<(Vec<u8>, bool)> {
+    /// What is kept in a folder, ascending by names.
+    pub(crate) fn list(&mut self, alloc: Global, path: &[Name]) -> Result<Vec<Found>, FolderError> {
+        let folder = self.path_of(alloc, path)?;
+        let mut all = self.all_in(alloc, folder.as_str())?;
+        all.sort_by(|a, b| a.name.as_slice().cmp(&b.name.as_slice()))?;
+        Ok(all)
+    }
+
+    /// What the system tells of the folder itself.
+    pub(crate) fn root_attributes(
+        &mut self,
+        alloc: Global,
+    ) -> Result<Option<Attributes>, FolderError> {
+        match fs::metadata(self.files, self.root) {
+            Ok(metadata) => Ok(self.kept_attributes(&metadata)),
+            Err(error) => Err(self.fault(String::from_str(alloc, self.root)?, &error)),
+        }
+    }
+
+    fn read_once(&self, alloc: Global, path: &str) -> io::Result<FileRead> {
         let mut file = fs::open(self.files, path)?;
         let before = state_of(&file.metadata()?);
         let room = usize::try_from(before.size.min(MOST_BYTES)).unwrap_or(0);
         let mut bytes = Vec::with_capacity(alloc, room)?;
         file.by_ref().take(MOST_BYTES).read_to_end(&mut bytes)?;
-        let after = state_of(&file.metadata()?);
+        let metadata = file.metadata()?;
+        let after = state_of(&metadata);
         let is_same = before == after && bytes.len() as u64 == after.size;
-        Ok((bytes, is_same))
+        Ok(FileRead {
+            bytes,
+            attributes: attributes_of(&metadata),
+            is_same,
+        })
     }
 
-    /// The bytes of a file. One that changes meanwhile is read once more.
-    fn bytes_of(&mut self, alloc: Global, path: &str) -> io::Result<(Vec<u8>, bool)> {
-        let first = self.bytes_once(alloc, path)?;
-        if first.1 {
+    /// What a file has. One that changes meanwhile is read once more.
+    fn read_twice(&self, alloc: Global, path: &str) -> io::Result<FileRead> {
+        let first = self.read_once(alloc, path)?;
+        if first.is_same {
             return Ok(first);
         }
-        self.bytes_once(alloc, path)
-    }
-}
-
-impl<R: AllocGlobal + Files + Clone + Drop> Folder for HostFolder<'_, R> {
-    ghost shows = { λ f tree. ⊥ };
-
-    ghost keeps = { λ f g. Unit {0} };
-
-    ghost keeps_itself = { λ f. tt };
-
-    ghost keeps_on = { λ f g h one other. tt };
-
-    fn list(&mut self, alloc: Global, path: &[Name]) -> Result<Items<Named>, FolderError> {
-        let folder = self.path_of(alloc, path)?;
-        let mut names = self.names(alloc, folder.as_str())?;
-        names.sort_by(|a, b| a.name.as_slice().cmp(&b.name.as_slice()))?;
-        Ok(Items::from_vec(names))
+        self.read_once(alloc, path)
     }
 
-    fn read(&mut self, alloc: Global, path: &[Name]) -> Result<Items<u8>, FolderError> {
+    /// What a file has. None once all files have more bytes than a volume takes.
+    pub(crate) fn read(
+        &mut self,
+        alloc: Global,
+        path: &[Name],
+    ) -> Result<Option<FileRead>, FolderError> {
         if self.bytes > MOST_BYTES_IN_ALL {
-            return Ok(Items::new(alloc));
+            return Ok(None);
         }
         let path = self.path_of(alloc, path)?;
-        match self.bytes_of(alloc, path.as_str()) {
-            Ok((bytes, true)) => Ok(Items::from_vec(bytes)),
-            Ok((bytes, false)) => {
-                self.leave_out(path.as_str(), Reason::Changed)?;
-                Ok(Items::from_vec(bytes))
+        let read = match self.read_twice(alloc, path.as_str()) {
+            Ok(read) => read,
+            Err(error) => return Err(self.fault(path, &error)),
+        };
+        if !read.is_same {
+            self.leave_out(path.as_str(), Reason::Changed)?;
+        }
+        Ok(Some(read))
+    }
+
+    /// Where a link leads to. None where that is no text, which is noted.
+    pub(crate) fn target(
+        &mut self,
+        alloc: Global,
+        path: &[Name],
+    ) -> Result<Option<Items<u8>>, FolderError> {
+        let path = self.path_of(alloc, path)?;
+        match fs::read_link(self.files, path.as_str()) {
+            Ok(target) => {
+                let bytes = target.as_path().as_str().as_bytes();
+                Ok(Some(Items::from_slice(alloc, bytes)?))
+            }
+            Err(error) if error.kind() == ErrorKind::InvalidFilename => {
+                self.leave_out(path.as_str(), Reason::TargetNoText)?;
+                Ok(None)
             }
             Err(error) => Err(self.fault(path, &error)),
         }

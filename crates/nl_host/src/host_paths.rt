@@ -1,11 +1,23 @@
 //! Paths of the host below a folder.
 ghost use Rattle.std.specs.Prelude.{◌≡◌, ◌≤◌, IfOk, IfSome, is_some, length, string_bytes};
+ghost use Rattle.std.specs.Str.{is_utf8};
 ghost use Rattle.nl_host.specs.HostPaths.{host_names, host_path, is_host_name};
 
 use nl_folders::Name;
 use nl_types::is_name;
 use std::alloc::{AllocError, Global};
 use std::str;
+
+/// Bytes as text, if they are UTF-8.
+pub(crate) fn text_of(bytes: &[u8]) -> Option<&str>
+    ensures may { is_some result ≡ is_utf8 bytes.now }
+    ensures text { IfSome result (λ text. text.now ≡ bytes.now) }
+{
+    match str::from_utf8(bytes) {
+        Ok(text) => Some(text),
+        Err(_) => None,
+    }
+}
 
 /// A name as text, where a path of the host may have it.
 fn name_text(name: &[u8]) -> Option<&str>
@@ -15,10 +27,7 @@ fn name_text(name: &[u8]) -> Option<&str>
     if !is_name(name) {
         return None;
     }
-    match str::from_utf8(name) {
-        Ok(text) => Some(text),
-        Err(_) => None,
-    }
+    text_of(name)
 }
 
 /// The path of the host that has a folder's path in front, and then the names of a path up to the first one

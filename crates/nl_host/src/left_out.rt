@@ -4,28 +4,37 @@ use std::fmt;
 /// Why something below a folder isn't kept, or isn't laid out.
 #[derive(Clone, Copy, Debug, PartialEq, Eq)]
 pub enum Reason {
-    /// It is a symbolic link. It isn't followed.
+    /// It is a symbolic link, where none are kept. It isn't followed.
     Link,
+    /// It is a symbolic link, and what it leads to isn't UTF-8.
+    TargetNoText,
     /// It is a device, a socket or a pipe.
     Special,
     /// A name in this folder isn't UTF-8. The system doesn't tell which.
     NameNoText,
-    /// Its path has more bytes than one of a volume may have.
+    /// Its path, or that of its manifest, has more bytes than one of a volume may have.
     LongPath,
     /// It can't be read.
     Unread,
-    /// It has a name that is kept for later use.
+    /// It has the name of a manifest.
     Reserved,
     /// It is the image, or a file that a save left beside that.
     Image,
     /// It changed while it was read, twice. What was read is kept.
     Changed,
+    /// The system doesn't set its owners.
+    Owners,
+    /// The system doesn't set its mode.
+    Mode,
+    /// The system doesn't set its time.
+    Time,
 }
 
 impl fmt::Display for Reason {
     fn fmt<W: fmt::Write>(&self, f: &mut fmt::Formatter<W>) -> fmt::Result {
         let text = match self {
             Reason::Link => "a symbolic link",
+            Reason::TargetNoText => "a symbolic link to what is not UTF-8",
             Reason::Special => "a device, a socket or a pipe",
             Reason::NameNoText => "has a name in it that is not UTF-8",
             Reason::LongPath => "a path above 4095 bytes",
@@ -33,6 +42,9 @@ impl fmt::Display for Reason {
             Reason::Reserved => "a name that nlkeep keeps for itself",
             Reason::Image => "the image itself",
             Reason::Changed => "changed while it was read",
+            Reason::Owners => "its owners, which cannot be set",
+            Reason::Mode => "its mode, which cannot be set",
+            Reason::Time => "its time, which cannot be set",
         };
         f.write_str(text)
     }

@@ -15,3 +15,4 @@ pub mod SealedTrees
 pub mod SealedParts
 pub mod SealedLimits
 pub mod Lookups
+pub mod HostDifferenceLaws

@@ -3,7 +3,7 @@ use Rattle.std.proofs.Common.{◌≡◌, ℕ, zero, suc, ◌+◌, ◌-◌, ◌<�
 use Rattle.std.specs.declared.cmp.Ordering.TheVariants.{Less, Equal, Greater}
 use Rattle.std.specs.Ordering.{is_eq, is_lt, ordering_reverse}
 use Rattle.std.specs.Cmp.Lexicographic.{nat_list_cmp_total}
-use Rattle.std.specs.FinMap.{is_sorted}
+use Rattle.std.specs.FinMap.{find, is_sorted}
 use Rattle.std.specs.FinMap.Entries.{below_all}
 use Rattle.std.proofs.lemmas.Bool.{and_parts, and_from}
 use Rattle.std.proofs.lemmas.List.{drop_more, take_rest}
@@ -14,7 +14,7 @@ use Rattle.nl_manifests.specs.HostTrees.{line_named}
 use Rattle.nl_manifests.specs.Manifests.{ascend}
 use Rattle.nl_manifests.specs.Private.Looking.{LinesNotBelow, first_named, rising}
 use Rattle.nl_manifests.proofs.Kept.{keyed, lines_sorted}
-use Rattle.nl_manifests.proofs.Sorted.{less_is}
+use Rattle.nl_manifests.proofs.Sorted.{absent, less_is}
 
 -- ---- entries
 
@@ -32,6 +32,15 @@ module _ {X : Type 0} where
       and_from (is_lt (path_cmp p e.0)) (below_all path_cmp p es)
       (ap is_lt (path_total.trans p q e.0 less (less_is (path_cmp q e.0) parts.0)))
       (below_more p q es less parts.1)
+
+  -- what is below the first path isn't among the entries
+  pub below_first : (p : Path) (e : Path × X) (es : List (Path × X)) → path_cmp p e.0 ≡ Less
+      → is_sorted path_cmp (e ∷ es) ≡ true → find path_cmp p (e ∷ es) ≡ None
+  below_first p e es less sorted =
+      let parts = and_parts (below_all path_cmp e.0 es) (is_sorted path_cmp es) sorted in
+      absent p (e ∷ es)
+      (and_from (is_lt (path_cmp p e.0)) (below_all path_cmp p es) (ap is_lt less)
+      (below_more p e.0 es less parts.0))
 
   -- entries whose paths rise are in order, and no others are
   pub rising_is : (es : List (Path × X)) → rising es ≡ is_sorted path_cmp es

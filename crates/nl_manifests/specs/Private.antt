@@ -4,3 +4,4 @@ pub mod Opening
 pub mod Places
 pub mod Sealing
 pub mod Looking
+pub mod Comparing

@@ -1,4 +1,5 @@
 //! What the definitions mean, as contracts of functions that do nothing.
+ghost use Rattle.nl_manifests.specs.HostDifferences.{HostDifferencesAreExact};
 ghost use Rattle.nl_manifests.specs.HostTrees.{TreesShowOne};
 ghost use Rattle.nl_manifests.specs.Readings.{ManifestsArePrinted};
 ghost use Rattle.nl_manifests.specs.Sealed.{SealedTreesOpen};
@@ -20,3 +21,8 @@ pub fn sealed_trees_open()
 {
     trees_show_one();
 }
+
+/// A difference is told at a path exactly where two trees of the host differ there.
+pub fn host_differences_are_exact()
+    ensures { HostDifferencesAreExact }
+{}

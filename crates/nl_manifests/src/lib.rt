@@ -3,6 +3,7 @@
 #![tactic(auto)]
 
 mod attributes;
+mod comparing;
 mod fields;
 mod host_tree;
 mod judging;
@@ -20,6 +21,7 @@ mod sealing;
 mod tests;
 
 pub use attributes::{Attributes, Time};
+pub use comparing::{HostDifference, host_differences};
 pub use host_tree::{HostEntry, HostNode, HostTree, LineFault, Opened};
 pub use manifest::{Line, LineKind, Manifest};
 pub use opening::open;

@@ -6,7 +6,7 @@ use crate::images::{device_for, open_at, read_image, save_image, take_place};
 use crate::printing::{Printer, tell_left_out};
 use crate::progress::Progress;
 use crate::room::Room;
-use crate::scanning::{Scan, scan_folder};
+use crate::scanning::{Scan, Source, scan_folder};
 use crate::sizes::size_shown;
 use crate::views::{View, tell_late};
 use clap::ArgMatches;
@@ -109,9 +109,12 @@ fn scan_asked(
     progress: &mut Progress<'_>,
 ) -> Result<Scan, Fault> {
     let excluded = patterns(rt.alloc(), matches)?;
-    let folder = word(matches, "FOLDER");
-    let image = word(matches, "IMAGE");
-    let scan = scan_folder(rt, folder, image, excluded.as_slice(), progress)?;
+    let source = Source {
+        folder: word(matches, "FOLDER"),
+        excluded: excluded.as_slice(),
+        is_plain: matches.get_flag("plain"),
+    };
+    let scan = scan_folder(rt, source, word(matches, "IMAGE"), progress)?;
     progress.end();
     tell_left_out(rt, scan.left_out.as_slice());
     Ok(scan)

@@ -1,66 +1,58 @@
 //! What differs between two trees.
 use crate::faults::{Fault, tree_fault};
-use crate::printing::{Entry, Printer};
-use crate::views::View;
-use nl_folders::{Name, Path, all_differences, begins_with, compare};
+use crate::printing::{Printer, Seen};
+use crate::views::{View, shown_alone};
+use nl_folders::{Name, Path, all_differences, begins_with, find_in};
 use nl_keep_pen::checkpoint_differences;
+use nl_manifests::{HostTree, host_differences};
 use nl_types::{CheckpointNumber, Node};
 use std::alloc::Global;
 use std::io::Write;
 
-/// What stands at a path in an ascending tree, and the entries that come behind.
-fn looked_up<'t>(
+/// A tree of a volume, and what it shows but for the bytes of files.
+#[derive(Drop)]
+struct Side<'t> {
     tree: &'t [(Path, Node)],
-    path: &[Name],
-) -> (Option<&'t Node>, &'t [(Path, Node)]) {
-    let mut left = tree;
-    while let [(here, node), rest @ ..] = left {
-        let order = compare(here.as_slice(), path);
-        if order.is_gt() {
-            return (None, left);
-        }
-        if order.is_eq() {
-            return (Some(node), rest);
-        }
-        left = rest;
-    }
-    (None, left)
+    shown: HostTree,
 }
 
-/// A tree that is looked at by ascending paths, each entry once.
-#[derive(Clone, Copy)]
-pub struct Cursor<'t> {
-    left: &'t [(Path, Node)],
-}
-
-impl<'t> Cursor<'t> {
-    pub fn over(tree: &'t [(Path, Node)]) -> Cursor<'t> {
-        Cursor { left: tree }
+impl<'t> Side<'t> {
+    fn of(alloc: Global, tree: &'t [(Path, Node)]) -> Result<Side<'t>, Fault> {
+        let shown = shown_alone(alloc, tree)?;
+        Ok(Side { tree, shown })
     }
 
-    /// What stands at a path that isn't below the one before.
-    pub fn at(&mut self, path: &[Name]) -> Option<&'t Node> {
-        let (found, left) = looked_up(self.left, path);
-        self.left = left;
-        found
+    /// What is shown at a path.
+    fn at(&self, path: &[Name]) -> Option<Seen<'_>> {
+        let entry = find_in(self.shown.as_slice(), path)?;
+        let size = match find_in(self.tree, path) {
+            Some(Node::File(bytes)) => bytes.len() as u64,
+            _ => 0,
+        };
+        Some(Seen { entry, size })
     }
 }
 
-/// Tells what differs from one tree to another, in the order of the paths, a line each. Answers how many
-/// paths that are.
+/// Tells what differs from what one tree shows to what another one does, in the order of the paths, a line
+/// each. Answers how many paths that are.
 pub fn tell_differences<W: Write>(
     alloc: Global,
     old: &[(Path, Node)],
     new: &[(Path, Node)],
     printer: &mut Printer<W>,
 ) -> Result<usize, Fault> {
-    let all = all_differences(alloc, old, new)?;
-    let mut old = Cursor::over(old);
-    let mut new = Cursor::over(new);
+    let of_nodes = all_differences(alloc, old, new)?;
+    let old = Side::of(alloc, old)?;
+    let new = Side::of(alloc, new)?;
+    let all = host_differences(
+        alloc,
+        old.shown.as_slice(),
+        new.shown.as_slice(),
+        of_nodes.as_slice(),
+    )?;
     for (path, difference) in all.as_slice() {
-        let before = old.at(path.as_slice()).map(Entry::of);
-        let after = new.at(path.as_slice()).map(Entry::of);
-        printer.difference(path.as_slice(), *difference, before, after)?;
+        let path = path.as_slice();
+        printer.difference(path, *difference, old.at(path), new.at(path))?;
     }
     Ok(all.len())
 }
@@ -73,7 +65,7 @@ pub struct Pair {
 }
 
 /// Tells what differs from one checkpoint to another at and below a path, as `tell_differences` does, with what
-/// is left of the paths there. It reads no file that both have by one inode.
+/// is left of the paths there. It reads manifests, and no file that both have by one inode.
 pub fn tell_checkpoint_differences<W: Write>(
     alloc: Global,
     view: &View<'_>,
@@ -81,16 +73,19 @@ pub fn tell_checkpoint_differences<W: Write>(
     top: &[Name],
     printer: &mut Printer<W>,
 ) -> Result<usize, Fault> {
-    let all = match checkpoint_differences(alloc, view.volume, pair.old, pair.new) {
+    let of_nodes = match checkpoint_differences(alloc, view.volume, pair.old, pair.new) {
         Ok(all) => all,
         Err(error) => return Err(tree_fault(alloc, view.path, error)),
     };
+    let old = view.shown(alloc, pair.old)?.tree;
+    let new = view.shown(alloc, pair.new)?.tree;
+    let all = host_differences(alloc, old.as_slice(), new.as_slice(), of_nodes.as_slice())?;
     let mut count: usize = 0;
     for (path, difference) in all.as_slice() {
         let path = path.as_slice();
         if begins_with(path, top) {
-            let before = view.entry_at(alloc, pair.old, path)?;
-            let after = view.entry_at(alloc, pair.new, path)?;
+            let before = view.seen(alloc, pair.old, old.as_slice(), path)?;
+            let after = view.seen(alloc, pair.new, new.as_slice(), path)?;
             printer.difference(&path[top.len()..], *difference, before, after)?;
             count = count.saturating_add(1);
         }

@@ -6,7 +6,7 @@ use crate::comparing::{Pair, tell_checkpoint_differences};
 use crate::faults::{Fault, fault_at, tree_fault};
 use crate::images::open_at;
 use crate::moments::shown;
-use crate::printing::Printer;
+use crate::printing::{Printer, tell_refused};
 use crate::restore::restore;
 use crate::views::{View, path_said};
 use clap::ArgMatches;
@@ -105,26 +105,25 @@ impl Asked<'_, '_> {
     }
 
     /// Lists what lies at and below a path of a checkpoint, with the bytes of files.
-    fn ls<W: Write>(&self, printer: &mut Printer<W>) -> Result<Outcome, Fault> {
+    fn ls<W: Write>(&self, rt: &HostRuntime, printer: &mut Printer<W>) -> Result<Outcome, Fault> {
         let number = self.number("CNO")?;
-        let names = self.view.names(self.alloc, number)?;
+        let shown = self.view.shown(self.alloc, number)?;
         let word = self.matches.get_str("PATH").unwrap_or("");
         let top = path_said(self.alloc, word)?;
         let mut is_there = false;
-        for (path, _) in names.as_slice() {
+        for (path, entry) in shown.tree.as_slice() {
             let path = path.as_slice();
             if begins_with(path, top.as_slice()) {
-                if let Some(entry) = self.view.entry_at(self.alloc, number, path)? {
-                    printer.entry(&path[top.len()..], entry)?;
-                    is_there = true;
-                }
+                let seen = self.view.seen_entry(self.alloc, number, path, entry)?;
+                printer.entry(&path[top.len()..], seen)?;
+                is_there = true;
             }
         }
-        if is_there {
-            Ok(Outcome::Done)
-        } else {
-            Err(fault_at(self.alloc, word, "nothing is there"))
+        if !is_there {
+            return Err(fault_at(self.alloc, word, "nothing is there"));
         }
+        let is_whole = tell_refused(rt, shown.refused.as_slice(), top.as_slice());
+        Ok(Outcome::of(is_whole))
     }
 
     /// Writes the bytes of a file, and nothing else.
@@ -168,7 +167,7 @@ fn look_at<W: Write>(
 ) -> Result<Outcome, Fault> {
     match name {
         "list" => asked.list(printer),
-        "ls" => asked.ls(printer),
+        "ls" => asked.ls(rt, printer),
         "cat" => asked.cat(printer),
         "diff" => asked.diff(printer),
         _ => restore(rt, asked.matches, asked.clock, asked.view),

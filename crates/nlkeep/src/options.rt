@@ -7,7 +7,7 @@ const MORE: &str = "\
 CNO is a checkpoint: its number, `latest`, or a date as 2026-11-26, 2026-11-26T18:00 or
 `yesterday`, which means the latest one at or before it.
 Status: 0 done, 1 `diff` found something, 2 refused, 3 done but something was left out.
-Modes and times of files are not kept yet, nor are symbolic links.";
+Owners are set by `restore --owners` alone. Extended attributes and ACLs are not kept.";
 
 /// How a command is given an argument.
 #[derive(Clone, Copy)]
@@ -24,6 +24,8 @@ enum Kind<'a> {
     Repeated(&'a str),
     /// By a letter.
     Letter(char),
+    /// By an option without a value.
+    Flag,
 }
 
 /// An argument of a command.
@@ -115,6 +117,11 @@ const COMMANDS: &[Form<'static>] = &[
                 kind: Kind::Repeated("PATTERN"),
                 help: "Path below FOLDER, or name, to pass over; * and ? stand for all but /",
             },
+            Argument {
+                name: "plain",
+                kind: Kind::Flag,
+                help: "Keeps names and bytes alone: no modes, times, owners and links",
+            },
             MOST,
             MOMENT,
         ],
@@ -134,6 +141,11 @@ const COMMANDS: &[Form<'static>] = &[
                 name: "path",
                 kind: Kind::Valued("PATH"),
                 help: PART,
+            },
+            Argument {
+                name: "owners",
+                kind: Kind::Flag,
+                help: "Sets owners too, and the bits of modes by which others act as them",
             },
         ],
     },
@@ -216,7 +228,7 @@ impl Kind<'_> {
         match self {
             Kind::Word | Kind::OptionalWord | Kind::Valued(_) => ArgAction::Set,
             Kind::Words | Kind::Repeated(_) => ArgAction::Append,
-            Kind::Letter(_) => ArgAction::SetTrue,
+            Kind::Letter(_) | Kind::Flag => ArgAction::SetTrue,
         }
     }
 }
@@ -237,6 +249,7 @@ fn library_argument(alloc: Global, argument: Argument<'_>) -> Arg<'_> {
         Kind::Words => plain.num_args(1..),
         Kind::Valued(value) | Kind::Repeated(value) => plain.long(argument.name).value_name(value),
         Kind::Letter(letter) => plain.short(letter),
+        Kind::Flag => plain.long(argument.name),
     }
 }
 

@@ -1,7 +1,7 @@
 //! What goes to standard output and error.
-use nl_folders::{Difference, Name};
+use nl_folders::{Name, Path, begins_with};
 use nl_host::LeftOut;
-use nl_types::Node;
+use nl_manifests::{Attributes, HostDifference, HostEntry, HostNode, LineFault};
 use std::io::{self, IsTerminal, Write};
 use std::str;
 
@@ -66,58 +66,115 @@ impl<W: Write> Printer<W> {
     }
 }
 
-/// What stands at a path, as far as it is told: a folder, or a file of so many bytes.
-#[derive(Clone, Copy, PartialEq, Eq)]
-pub enum Entry {
-    Folder,
-    File(u64),
+/// What is told of what stands at a path.
+#[derive(Clone, Copy)]
+pub struct Seen<'t> {
+    pub entry: &'t HostEntry,
+    /// How many bytes it has, if it is a file.
+    pub size: u64,
 }
 
-impl Entry {
-    pub fn of(node: &Node) -> Entry {
-        match node {
-            Node::Dir => Entry::Folder,
-            Node::File(bytes) => Entry::File(bytes.len() as u64),
-        }
-    }
+fn is_folder(seen: Seen<'_>) -> bool {
+    matches!(seen.entry.node, HostNode::Directory)
 }
 
 /// What a line on a difference begins with.
-fn sign(difference: Difference) -> char {
+fn sign(difference: HostDifference) -> char {
     match difference {
-        Difference::Added => '+',
-        Difference::Removed => '-',
-        Difference::Rewritten => 'M',
-        Difference::Replaced => 'T',
+        HostDifference::Added => '+',
+        HostDifference::Removed => '-',
+        HostDifference::Rewritten => 'M',
+        HostDifference::Replaced => 'T',
+        HostDifference::Changed => 'm',
     }
 }
 
 impl<W: Write> Printer<W> {
-    /// What stands at a path, in a line: how many bytes a file has, and the path.
-    pub fn entry(&mut self, path: &[Name], entry: Entry) -> io::Result<()> {
-        match entry {
-            Entry::Folder => write!(self.out, "{:>10}  ", "")?,
-            Entry::File(bytes) => write!(self.out, "{bytes:>10}  ")?,
+    /// A path, and where it leads to, if it is that of a link.
+    fn place(&mut self, path: &[Name], seen: Seen<'_>) -> io::Result<()> {
+        self.path(path, is_folder(seen))?;
+        if let HostNode::Link(target) = &seen.entry.node {
+            self.out.write_all(b" -> ")?;
+            self.name(target.as_slice())?;
         }
-        self.path(path, entry == Entry::Folder)?;
+        Ok(())
+    }
+
+    /// What stands at a path, in a line: how many bytes a file has, and the path.
+    pub fn entry(&mut self, path: &[Name], seen: Seen<'_>) -> io::Result<()> {
+        match seen.entry.node {
+            HostNode::File(_) => write!(self.out, "{:>10}  ", seen.size)?,
+            _ => write!(self.out, "{:>10}  ", "")?,
+        }
+        self.place(path, seen)?;
         self.line()
     }
 
-    /// How many bytes a file has, and had.
-    fn sizes(&mut self, old: Option<Entry>, new: Option<Entry>) -> io::Result<()> {
-        match (old, new) {
-            (Some(Entry::File(old)), Some(Entry::File(new))) => {
-                write!(self.out, " ({old} to {new} bytes)")
-            }
-            (Some(Entry::Folder), Some(Entry::File(new))) => {
-                write!(self.out, " ({new} bytes, a folder before)")
-            }
-            (Some(Entry::File(old)), Some(Entry::Folder)) => {
-                write!(self.out, " (a file of {old} bytes before)")
-            }
-            (None, Some(Entry::File(bytes))) => write!(self.out, " ({bytes} bytes)"),
-            (Some(Entry::File(bytes)), None) => write!(self.out, " ({bytes} bytes)"),
+    /// What stood there before.
+    fn earlier(&mut self, old: Seen<'_>) -> io::Result<()> {
+        match old.entry.node {
+            HostNode::Directory => write!(self.out, "a folder before"),
+            HostNode::Link(_) => write!(self.out, "a link before"),
+            HostNode::File(_) => write!(self.out, "a file of {} bytes before", old.size),
+        }
+    }
+
+    /// How many bytes a file has, and what else stood there.
+    fn replaced(&mut self, old: Seen<'_>, new: Seen<'_>) -> io::Result<()> {
+        self.out.write_all(b" (")?;
+        if let HostNode::File(_) = new.entry.node {
+            write!(self.out, "{} bytes, ", new.size)?;
+        }
+        self.earlier(old)?;
+        self.out.write_all(b")")
+    }
+
+    /// How many bytes a file has.
+    fn size(&mut self, seen: Seen<'_>) -> io::Result<()> {
+        match seen.entry.node {
+            HostNode::File(_) => write!(self.out, " ({} bytes)", seen.size),
             _ => Ok(()),
+        }
+    }
+
+    /// What is other of the mode and the owners, as far as both are known.
+    fn attributes(&mut self, old: Attributes, new: Attributes) -> io::Result<()> {
+        if old.mode != new.mode {
+            write!(self.out, " (mode {:04o} to {:04o})", old.mode, new.mode)?;
+        }
+        if old.owner != new.owner {
+            write!(self.out, " (owner {} to {})", old.owner, new.owner)?;
+        }
+        if old.group != new.group {
+            write!(self.out, " (group {} to {})", old.group, new.group)?;
+        }
+        Ok(())
+    }
+
+    /// What is other of two entries of one kind.
+    fn changed(&mut self, old: Seen<'_>, new: Seen<'_>) -> io::Result<()> {
+        if let HostNode::Link(target) = &old.entry.node {
+            if !is_to(new, target.as_slice()) {
+                self.out.write_all(b" (to ")?;
+                self.name(target.as_slice())?;
+                self.out.write_all(b" before)")?;
+            }
+        }
+        match (old.entry.attributes, new.entry.attributes) {
+            (Some(old), Some(new)) => self.attributes(old, new),
+            _ => Ok(()),
+        }
+    }
+
+    /// What is other where something stood and something stands.
+    fn both(&mut self, difference: HostDifference, old: Seen<'_>, new: Seen<'_>) -> io::Result<()> {
+        match difference {
+            HostDifference::Replaced => self.replaced(old, new),
+            HostDifference::Rewritten => {
+                write!(self.out, " ({} to {} bytes)", old.size, new.size)?;
+                self.changed(old, new)
+            }
+            _ => self.changed(old, new),
         }
     }
 
@@ -125,15 +182,31 @@ impl<W: Write> Printer<W> {
     pub fn difference(
         &mut self,
         path: &[Name],
-        difference: Difference,
-        old: Option<Entry>,
-        new: Option<Entry>,
+        difference: HostDifference,
+        old: Option<Seen<'_>>,
+        new: Option<Seen<'_>>,
     ) -> io::Result<()> {
         write!(self.out, "{} ", sign(difference))?;
-        let there = if new.is_some() { new } else { old };
-        self.path(path, there == Some(Entry::Folder))?;
-        self.sizes(old, new)?;
+        match (old, new) {
+            (Some(old), Some(new)) => {
+                self.place(path, new)?;
+                self.both(difference, old, new)?;
+            }
+            (Some(one), None) | (None, Some(one)) => {
+                self.place(path, one)?;
+                self.size(one)?;
+            }
+            (None, None) => {}
+        }
         self.line()
+    }
+}
+
+/// Whether it is a link that leads there.
+fn is_to(seen: Seen<'_>, target: &[u8]) -> bool {
+    match &seen.entry.node {
+        HostNode::Link(to) => to.as_slice() == target,
+        _ => false,
     }
 }
 
@@ -156,4 +229,38 @@ impl<W: Write> Printer<W> {
         self.text(left.path.as_str())?;
         writeln!(self.out, ": {}", left.reason)
     }
+}
+
+/// Why a line of a manifest shows nothing.
+fn fault(fault: LineFault) -> &'static str {
+    match fault {
+        LineFault::BadName => "a name that a manifest has, and no name",
+        LineFault::NoFile => "a file that a manifest has, and none is there",
+        LineFault::Taken => "a link that a manifest has, and something else is there",
+    }
+}
+
+impl<W: Write> Printer<W> {
+    fn refused(&mut self, path: &[Name], why: LineFault) -> io::Result<()> {
+        write!(self.out, "nlkeep: left out: ")?;
+        self.path(path, false)?;
+        writeln!(self.out, ": {}", fault(why))
+    }
+}
+
+/// Tells the lines of manifests at and below a path that show nothing, on standard error. Answers whether there
+/// are none.
+pub fn tell_refused(rt: &HostRuntime, all: &[(Path, LineFault)], top: &[Name]) -> bool {
+    let mut printer = Printer {
+        out: rt.stderr(),
+        is_terminal: rt.stderr().is_terminal(),
+    };
+    let mut is_whole = true;
+    for (path, why) in all {
+        if begins_with(path.as_slice(), top) {
+            let _ = printer.refused(path.as_slice(), *why);
+            is_whole = false;
+        }
+    }
+    is_whole
 }

@@ -1,8 +1,6 @@
 //! What is told of work that takes more than a second, on standard error where that is a terminal.
 use crate::sizes::size_shown;
-use nl_folders::{Folder, FolderError, Name};
-use nl_types::{Items, Named};
-use std::alloc::Global;
+use nl_host::Watching;
 use std::io::IsTerminal;
 use std::time::Instant;
 
@@ -67,19 +65,17 @@ impl<'a> Progress<'a> {
     }
 }
 
-/// A folder of which it is told how much of it is read.
+/// How much of a folder has been read.
 #[derive(Drop)]
-pub struct Watched<'p, 'a, F: Folder> {
-    pub folder: F,
+pub struct Reading<'p, 'a> {
     progress: &'p mut Progress<'a>,
     files: u64,
     bytes: u64,
 }
 
-impl<'p, 'a, F: Folder> Watched<'p, 'a, F> {
-    pub fn new(folder: F, progress: &'p mut Progress<'a>) -> Watched<'p, 'a, F> {
-        Watched {
-            folder,
+impl<'p, 'a> Reading<'p, 'a> {
+    pub fn new(progress: &'p mut Progress<'a>) -> Reading<'p, 'a> {
+        Reading {
             progress,
             files: 0,
             bytes: 0,
@@ -87,24 +83,10 @@ impl<'p, 'a, F: Folder> Watched<'p, 'a, F> {
     }
 }
 
-impl<F: Folder> Folder for Watched<'_, '_, F> {
-    ghost shows = { λ f. F.shows f.folder };
-
-    ghost keeps = { λ f g. F.keeps f.folder g.folder };
-
-    ghost keeps_itself = { λ f. F.keeps_itself f.folder };
-
-    ghost keeps_on = { λ f g h. F.keeps_on f.folder g.folder h.folder };
-
-    fn list(&mut self, alloc: Global, path: &[Name]) -> Result<Items<Named>, FolderError> {
-        self.folder.list(alloc, path)
-    }
-
-    fn read(&mut self, alloc: Global, path: &[Name]) -> Result<Items<u8>, FolderError> {
-        let bytes = self.folder.read(alloc, path)?;
+impl Watching for Reading<'_, '_> {
+    fn tell(&mut self, bytes: u64) {
         self.files = self.files.saturating_add(1);
-        self.bytes = self.bytes.saturating_add(bytes.len() as u64);
+        self.bytes = self.bytes.saturating_add(bytes);
         self.progress.tell_read(self.files, self.bytes);
-        Ok(bytes)
     }
 }

@@ -1,12 +1,13 @@
 //! `restore`: a checkpoint's tree is laid out in a folder of the host.
 use crate::asking::{Clock, Outcome, word};
 use crate::faults::{Fault, fault_at, system_fault};
-use crate::printing::tell_left_out;
+use crate::printing::{tell_left_out, tell_refused};
 use crate::views::{View, part_said, path_said};
 use clap::ArgMatches;
-use nl_folders::{Path, Tree};
-use nl_host::lay_out;
-use nl_types::{Items, Node};
+use nl_folders::{Name, Path};
+use nl_host::{LeftOut, lay_out, set_attributes};
+use nl_manifests::{HostEntry, HostNode, HostTree};
+use nl_types::Items;
 use std::alloc::{AllocError, Global};
 use std::fs;
 use std::io::{self, ErrorKind};
@@ -31,31 +32,45 @@ fn make_folder(rt: &HostRuntime, folder: &str) -> Result<(), Fault> {
     }
 }
 
-/// A file that is restored alone stands under its name in the folder.
-fn under_name(alloc: Global, part: Tree, path: &Path) -> Result<Tree, AllocError> {
-    let mut entries = part.into_vec().into_iter();
+/// A file or a link that is restored alone stands under its name in the folder.
+fn under_name(alloc: Global, part: HostTree, path: &[Name]) -> Result<HostTree, AllocError> {
     let mut tree = Items::new(alloc);
-    if let (Some((_, node)), Some(name)) = (entries.next(), path.as_slice().last()) {
-        let mut path = Items::new(alloc);
-        path.push(Items::from_slice(alloc, name.as_slice())?)?;
-        tree.push((path, node))?;
+    if let Some(name) = path.last() {
+        for (_, entry) in part.into_vec() {
+            let mut path = Items::new(alloc);
+            path.push(Items::from_slice(alloc, name.as_slice())?)?;
+            tree.push((path, entry))?;
+        }
     }
     Ok(tree)
 }
 
 /// What is to be laid out.
-fn part_wanted(alloc: Global, tree: &[(Path, Node)], word: Option<&str>) -> Result<Tree, Fault> {
+fn part_wanted(alloc: Global, tree: HostTree, word: &str) -> Result<HostTree, Fault> {
     let part = part_said(alloc, tree, word)?;
     match part.as_slice() {
-        [(_, Node::File(_)), ..] => {
-            let path = path_said(alloc, word.unwrap_or(""))?;
-            Ok(under_name(alloc, part, &path)?)
+        [(_, entry), ..] if !matches!(entry.node, HostNode::Directory) => {
+            let path = path_said(alloc, word)?;
+            Ok(under_name(alloc, part, path.as_slice())?)
         }
         _ => Ok(part),
     }
 }
 
-/// Lays out a checkpoint's tree, or what lies at and below a path of it. The folder is made last of all that
+/// Lays out a tree in a folder, and sets the attributes of all that is in it. Answers what was left out.
+fn put_all(
+    rt: &HostRuntime,
+    folder: &str,
+    part: &[(Path, HostEntry)],
+    with_owners: bool,
+) -> io::Result<Vec<LeftOut>> {
+    let mut left_out = Vec::new(rt.alloc());
+    lay_out(rt, folder, part, &mut left_out)?;
+    set_attributes(rt, folder, part, with_owners, &mut left_out)?;
+    Ok(left_out)
+}
+
+/// Lays out what a checkpoint shows, or what lies at and below a path of it. The folder is made last of all that
 /// may be refused.
 pub fn restore(
     rt: &HostRuntime,
@@ -65,14 +80,16 @@ pub fn restore(
 ) -> Result<Outcome, Fault> {
     let alloc = rt.alloc();
     let folder = word(matches, "FOLDER");
-    let tree = view.tree(alloc, word(matches, "CNO"), clock)?;
-    let part = part_wanted(alloc, tree.as_slice(), matches.get_str("path"))?;
+    let top = matches.get_str("path").unwrap_or("");
+    let opened = view.opened(alloc, word(matches, "CNO"), clock)?;
+    let part = part_wanted(alloc, opened.tree, top)?;
     make_folder(rt, folder)?;
-    let mut left_out = Vec::new(alloc);
-    match lay_out(rt, folder, part.as_slice(), &mut left_out) {
-        Ok(()) => {
+    match put_all(rt, folder, part.as_slice(), matches.get_flag("owners")) {
+        Ok(left_out) => {
             tell_left_out(rt, left_out.as_slice());
-            Ok(Outcome::of(left_out.is_empty()))
+            let top = path_said(alloc, top)?;
+            let is_told_whole = tell_refused(rt, opened.refused.as_slice(), top.as_slice());
+            Ok(Outcome::of(is_told_whole && left_out.is_empty()))
         }
         Err(error) => Err(system_fault(alloc, folder, "cannot be written", &error)),
     }

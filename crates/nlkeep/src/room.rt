@@ -4,11 +4,10 @@ ghost use Rattle.nl_commit.specs.Layout.{MeansWorld};
 ghost use Rattle.nl_keep.specs.Lasting.{KeepsOwn};
 ghost use Rattle.nl_keep.specs.Volumes.{LeadsTo};
 
-use crate::comparing::Cursor;
 use crate::rounds::Round;
 use nl_core::Pen;
 use nl_device::Device;
-use nl_folders::{Path, all_differences};
+use nl_folders::{Path, all_differences, find_in};
 use nl_keep::laws::block_events_keep_all;
 use nl_keep_pen::{PenVolume, Preparing, Tidying};
 use nl_sufile::Sustat;
@@ -95,12 +94,10 @@ fn blocks_between(
     new: &[(Path, Node)],
 ) -> Result<u64, AllocError> {
     let differences = all_differences(alloc, old, new)?;
-    let mut before = Cursor::over(old);
-    let mut after = Cursor::over(new);
     let mut blocks: u64 = 0;
     for (path, _) in differences.as_slice() {
-        let earlier = before.at(path.as_slice());
-        if let Some(Node::File(bytes)) = after.at(path.as_slice()) {
+        let earlier = find_in(old, path.as_slice());
+        if let Some(Node::File(bytes)) = find_in(new, path.as_slice()) {
             blocks = blocks.saturating_add(file_blocks(earlier, bytes.as_slice()));
         }
     }

@@ -1,8 +1,10 @@
 //! The folder of the host that is kept.
 use crate::faults::{Fault, fault_at, system_fault, volume_fault};
-use crate::progress::{Progress, Watched};
-use nl_folders::{FolderError, Tree, whole_tree};
-use nl_host::{HostFolder, LeftOut, Pattern, Selection, TooBig};
+use crate::progress::{Progress, Reading};
+use nl_folders::{FolderError, Path as TreePath, Tree};
+use nl_host::{HostFolder, LeftOut, Pattern, Selection, TooBig, read_folder};
+use nl_manifests::{HostEntry, SealError, seal};
+use nl_types::VolError;
 use std::alloc::{AllocError, Global};
 use std::path::{Path, PathBuf};
 use std::{fs, io};
@@ -10,9 +12,24 @@ use std::{fs, io};
 /// The most bytes that a volume has.
 const MOST_BYTES: u64 = 268_435_456;
 
+/// The folder that is to be kept.
+#[derive(Clone, Copy)]
+pub struct Source<'a> {
+    pub folder: &'a str,
+    /// What a person left out.
+    pub excluded: &'a [Pattern<'a>],
+    /// Whether names and bytes alone are kept.
+    pub is_plain: bool,
+}
+
+/// What is said of a folder of too many paths.
+const TOO_MANY: &str =
+    "has more files and folders than a volume takes, a manifest of each folder counted";
+
 /// What was found in a folder.
 #[derive(Drop)]
 pub struct Scan {
+    /// The tree of a volume that shows it.
     pub tree: Tree,
     pub left_out: Vec<LeftOut>,
 }
@@ -56,9 +73,20 @@ fn told(text: Result<String, AllocError>) -> Fault {
 
 fn scan_fault(alloc: Global, path: &str, error: FolderError) -> Fault {
     match error {
+        FolderError::Refused(VolError::TooBig) => fault_at(alloc, path, TOO_MANY),
         FolderError::Refused(error) => volume_fault(alloc, path, error),
         FolderError::Unread => fault_at(alloc, path, "cannot be read"),
         FolderError::Disordered => fault_at(alloc, path, "changed while it was read"),
+    }
+}
+
+/// The tree of a volume that shows what was read of a folder.
+fn sealed(alloc: Global, folder: &str, host: &[(TreePath, HostEntry)]) -> Result<Tree, Fault> {
+    match seal(alloc, host) {
+        Ok(tree) => Ok(tree),
+        Err(SealError::Memory) => Err(Fault::Memory),
+        Err(SealError::Unshown) => Err(fault_at(alloc, folder, "changed while it was read")),
+        Err(SealError::TooBig) => Err(fault_at(alloc, folder, TOO_MANY)),
     }
 }
 
@@ -70,12 +98,12 @@ fn scan_below(
     rt: &HostRuntime,
     folder: &str,
     selection: Selection<'_>,
+    is_plain: bool,
     progress: &mut Progress<'_>,
 ) -> Result<Scan, Fault> {
     let alloc = rt.alloc();
-    let mut watched = Watched::new(HostFolder::new(rt, folder, selection), progress);
-    let read = whole_tree(alloc, &mut watched);
-    let host = watched.folder;
+    let mut host = HostFolder::new(rt, folder, selection, is_plain);
+    let read = read_folder(alloc, &mut host, &mut Reading::new(progress));
     if !host.too_big.is_empty() {
         return Err(told(too_big_text(alloc, host.too_big.as_slice())));
     }
@@ -84,7 +112,7 @@ fn scan_below(
     }
     match read {
         Ok(tree) => Ok(Scan {
-            tree,
+            tree: sealed(alloc, folder, tree.as_slice())?,
             left_out: host.left_out,
         }),
         Err(error) => {
@@ -97,24 +125,24 @@ fn scan_below(
 /// All that is to be kept of a folder but what a person left out. `image` is where the volume's image stands.
 pub fn scan_folder(
     rt: &HostRuntime,
-    folder: &str,
+    source: Source<'_>,
     image: &str,
-    excluded: &[Pattern<'_>],
     progress: &mut Progress<'_>,
 ) -> Result<Scan, Fault> {
     let alloc = rt.alloc();
-    let root = match fs::canonicalize(rt, folder) {
+    let root = match fs::canonicalize(rt, source.folder) {
         Ok(root) => root,
-        Err(error) => return Err(system_fault(alloc, folder, "cannot be read", &error)),
+        Err(error) => return Err(system_fault(alloc, source.folder, "cannot be read", &error)),
     };
     let (image_folder, image_name) = match folder_and_name(rt, image) {
         Ok(place) => place,
         Err(error) => return Err(system_fault(alloc, image, "cannot be read", &error)),
     };
     let selection = Selection {
-        excluded,
+        excluded: source.excluded,
         image_folder: image_folder.as_path().as_str(),
         image_name: image_name.as_str(),
     };
-    scan_below(rt, root.as_path().as_str(), selection, progress)
+    let root = root.as_path().as_str();
+    scan_below(rt, root, selection, source.is_plain, progress)
 }

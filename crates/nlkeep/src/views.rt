@@ -3,11 +3,14 @@ use crate::asking::Clock;
 use crate::checkpoints::{meant, rows};
 use crate::faults::{Fault, fault_at, tree_fault, volume_fault};
 use crate::moments::shown;
-use crate::printing::Entry;
+use crate::printing::Seen;
 use nl_device::MemDevice;
-use nl_folders::{Folder, FolderError, Name, Path, Tree, part_below, spelled, whole_tree};
+use nl_folders::{
+    Folder, FolderError, Name, Path, Tree, copied, find_in, part_below, spelled, whole_tree,
+};
 use nl_keep::{CheckpointFolder, Volume, checkpoint_tree};
 use nl_keep_pen::PenVolume;
+use nl_manifests::{HostEntry, HostNode, HostTree, Opened, open};
 use nl_types::{Answer, Ask, CheckpointNumber, Items, Named, Node, Reply, Row, Stat, VolError};
 use std::alloc::{AllocError, Global};
 
@@ -74,10 +77,11 @@ impl<'a> View<'a> {
         }
     }
 
-    /// The tree of the checkpoint that a word means.
-    pub fn tree(&self, alloc: Global, word: &str, clock: Clock<'_>) -> Result<Tree, Fault> {
+    /// What the checkpoint shows that a word means.
+    pub fn opened(&self, alloc: Global, word: &str, clock: Clock<'_>) -> Result<Opened, Fault> {
         let number = self.number(alloc, word, clock)?;
-        self.tree_of(alloc, number)
+        let tree = self.tree_of(alloc, number)?;
+        Ok(open(alloc, tree.as_slice())?)
     }
 
     fn folder_of(&self, number: CheckpointNumber) -> CheckpointFolder<'_, PenVolume<MemDevice>> {
@@ -87,13 +91,13 @@ impl<'a> View<'a> {
         }
     }
 
-    /// The paths and kinds of a kept checkpoint: each file stands there without its bytes, which aren't read.
-    pub fn names(&self, alloc: Global, number: CheckpointNumber) -> Result<Tree, Fault> {
+    /// What a kept checkpoint shows, but for the bytes of files: of these, manifests alone are read.
+    pub fn shown(&self, alloc: Global, number: CheckpointNumber) -> Result<Opened, Fault> {
         let mut names = Names {
             folder: self.folder_of(number),
         };
         match whole_tree(alloc, &mut names) {
-            Ok(tree) => Ok(tree),
+            Ok(tree) => Ok(open(alloc, tree.as_slice())?),
             Err(error) => Err(tree_fault(alloc, self.path, error)),
         }
     }
@@ -118,17 +122,41 @@ impl<'a> View<'a> {
         }
     }
 
-    /// What stands at a path of a kept checkpoint, if anything does.
-    pub fn entry_at(
+    /// How many bytes the file at a path of a kept checkpoint has.
+    fn size(&self, alloc: Global, number: CheckpointNumber, path: &[Name]) -> Result<u64, Fault> {
+        let path = spelled(alloc, path)?;
+        match size_told(self.volume.read_at(number, &Ask::Stat { path })) {
+            Ok(size) => Ok(size),
+            Err(error) => Err(volume_fault(alloc, self.path, error)),
+        }
+    }
+
+    /// An entry that a kept checkpoint shows at a path, with the bytes of a file.
+    pub fn seen_entry<'t>(
         &self,
         alloc: Global,
         number: CheckpointNumber,
         path: &[Name],
-    ) -> Result<Option<Entry>, Fault> {
-        let path = spelled(alloc, path)?;
-        match entry_told(self.volume.read_at(number, &Ask::Stat { path })) {
-            Ok(entry) => Ok(entry),
-            Err(error) => Err(volume_fault(alloc, self.path, error)),
+        entry: &'t HostEntry,
+    ) -> Result<Seen<'t>, Fault> {
+        let size = match &entry.node {
+            HostNode::File(_) => self.size(alloc, number, path)?,
+            _ => 0,
+        };
+        Ok(Seen { entry, size })
+    }
+
+    /// What a kept checkpoint shows at a path, if anything, by all that it shows.
+    pub fn seen<'t>(
+        &self,
+        alloc: Global,
+        number: CheckpointNumber,
+        shown: &'t [(Path, HostEntry)],
+        path: &[Name],
+    ) -> Result<Option<Seen<'t>>, Fault> {
+        match find_in(shown, path) {
+            Some(entry) => Ok(Some(self.seen_entry(alloc, number, path, entry)?)),
+            None => Ok(None),
         }
     }
 
@@ -138,13 +166,11 @@ impl<'a> View<'a> {
     }
 }
 
-/// What a `stat` tells of a path.
-fn entry_told(reply: Reply) -> Result<Option<Entry>, VolError> {
+/// How many bytes a `stat` tells of.
+fn size_told(reply: Reply) -> Result<u64, VolError> {
     match reply {
-        Ok(Answer::Stat(Stat::File(size))) => Ok(Some(Entry::File(size))),
-        Ok(Answer::Stat(Stat::Dir(_))) => Ok(Some(Entry::Folder)),
-        Ok(_) => Ok(None),
-        Err(error) if is_of_no_entry(error) => Ok(None),
+        Ok(Answer::Stat(Stat::File(size))) => Ok(size),
+        Ok(_) => Ok(0),
         Err(error) => Err(error),
     }
 }
@@ -157,7 +183,31 @@ fn is_of_no_entry(error: VolError) -> bool {
     )
 }
 
-/// A folder whose files aren't read.
+/// Whether a path has the name of a manifest.
+fn is_of_manifest(path: &[Name]) -> bool {
+    match path {
+        [.., name] => name.as_slice() == b".nlkeep".as_slice(),
+        [] => false,
+    }
+}
+
+/// What a tree shows, but for the bytes of files.
+pub fn shown_alone(alloc: Global, tree: &[(Path, Node)]) -> Result<HostTree, AllocError> {
+    let mut alone = Items::new(alloc);
+    for (path, node) in tree {
+        let node = match node {
+            Node::Dir => Node::Dir,
+            Node::File(bytes) if is_of_manifest(path.as_slice()) => {
+                Node::File(Items::from_slice(alloc, bytes.as_slice())?)
+            }
+            Node::File(_) => Node::File(Items::new(alloc)),
+        };
+        alone.push((copied(alloc, path.as_slice())?, node))?;
+    }
+    Ok(open(alloc, alone.as_slice())?.tree)
+}
+
+/// A folder of which no files are read but those that have the name of a manifest.
 #[derive(Drop)]
 struct Names<F: Folder> {
     folder: F,
@@ -178,8 +228,12 @@ impl<F: Folder> Folder for Names<F> {
         self.folder.list(alloc, path)
     }
 
-    fn read(&mut self, alloc: Global, _: &[Name]) -> Result<Items<u8>, FolderError> {
-        Ok(Items::new(alloc))
+    fn read(&mut self, alloc: Global, path: &[Name]) -> Result<Items<u8>, FolderError> {
+        if is_of_manifest(path) {
+            self.folder.read(alloc, path)
+        } else {
+            Ok(Items::new(alloc))
+        }
     }
 }
 
@@ -195,8 +249,7 @@ pub fn path_said(alloc: Global, word: &str) -> Result<Path, AllocError> {
 }
 
 /// What lies at and below the path that a word says, with the rest of the paths.
-pub fn part_said(alloc: Global, tree: &[(Path, Node)], word: Option<&str>) -> Result<Tree, Fault> {
-    let word = word.unwrap_or("");
+pub fn part_said(alloc: Global, tree: HostTree, word: &str) -> Result<HostTree, Fault> {
     let path = path_said(alloc, word)?;
     let part = part_below(alloc, tree, path.as_slice())?;
     if part.is_empty() {

@@ -1,7 +1,8 @@
-use Rattle.std.proofs.Common.{◌≡◌, ◌++◌, drop}
+use Rattle.std.proofs.Common.{◌≡◌, ◌++◌}
+use Rattle.std.specs.Vec.Iter.{into_iter_items}
 use Rattle.nl_folders.specs.Parts.{part_below}
 use Rattle.nl_folders.proofs.trees.part_below.Given as goal
 
 abbrev pub invariant-loop-entry : goal.invariant-loop-entry
-invariant-loop-entry l =
-    l.part ++ part_below (drop l.entry-index l.entries) l.top ≡ part_below l.entries l.top
+invariant-loop-entry g l =
+    l.part ++ part_below (into_iter_items l.entry-iterator) l.top ≡ part_below l.fn.entries l.top
