@@ -16,3 +16,6 @@ pub mod SealedParts
 pub mod SealedLimits
 pub mod Lookups
 pub mod HostDifferenceLaws
+pub mod UnreadTrees
+pub mod UnreadDifferences
+pub mod FolderTrees

@@ -201,8 +201,9 @@ fn add_first(
     }
 }
 
-/// All that differs from one tree of the host to another, in the order of the paths. Which files have other bytes
-/// is told by what differs between the trees of a volume that show the two, so bytes of files don't count here.
+/// All that differs from one tree of the host to another, in the order of the paths. Which files have other
+/// bytes is told by what differs between the trees of a volume that show the two, so bytes of files don't count
+/// here.
 ///
 /// # Errors
 /// Memory.

@@ -17,8 +17,6 @@ mod printing;
 mod reading;
 mod refusing;
 mod sealing;
-#[cfg(test)]
-mod tests;
 
 pub use attributes::{Attributes, Time};
 pub use comparing::{HostDifference, host_differences};

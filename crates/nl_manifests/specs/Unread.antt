@@ -1,0 +1,30 @@
+-- Trees of which no file is read but manifests.
+use Rattle.std.specs.Prelude.{◌≡◌, if◌then◌else◌, IsTrue, [], map}
+use Rattle.std.specs.FinMap.{is_sorted}
+use Rattle.nl_types.specs.declared.reply.Node.{Node}
+use Rattle.nl_types.specs.declared.reply.Node.TheVariants.{Dir, File}
+use Rattle.nl_types.specs.Paths.{Name, Path, path_cmp, same_name}
+use Rattle.nl_types.specs.Trees.{Tree}
+use Rattle.nl_folders.specs.Differences.{differences}
+use Rattle.nl_manifests.specs.HostDifferences.{differences_by, host_differences, told_by}
+use Rattle.nl_manifests.specs.HostTrees.{HostTree, Shows, last_name, manifest_name, parted}
+
+-- a file stands without its bytes, unless it has the name of a manifest
+abbrev pub unread_node : Name → Node → Node
+unread_node name Dir = Dir
+unread_node name (File bytes) = if same_name name manifest_name then File bytes else File []
+
+abbrev pub unread_at : Path → Node → Node
+unread_at path node = unread_node (last_name (parted path)) node
+
+abbrev pub unread : Tree → Tree
+unread tree = map (λ e. (e.0, unread_at e.0 e.1)) tree
+
+-- What differs between what two trees show is told by what two others show, of which no file is read but
+-- manifests, and by what differs between the two trees.
+abbrev pub DifferencesNeedNoBytes : Type 0
+DifferencesNeedNoBytes =
+    (old new : Tree) (one other before after : HostTree)
+    → IsTrue (is_sorted path_cmp old) → IsTrue (is_sorted path_cmp new)
+    → Shows old one → Shows new other → Shows (unread old) before → Shows (unread new) after
+    → differences_by (told_by (differences old new)) before after ≡ host_differences one other
