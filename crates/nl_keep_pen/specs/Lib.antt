@@ -1,4 +1,5 @@
 pub mod Compared
+pub mod Folders
 pub mod Images
 pub mod Runs
 -- for proofs of other crates

@@ -1,8 +1,10 @@
 //! What backups, restores and forgetting come to over many runs, as contracts of functions that do nothing.
+ghost use Rattle.nl_keep_pen.specs.Folders.{FoldersComeBack};
 ghost use Rattle.nl_keep_pen.specs.Runs.{BackupsComeBack, BackupsKeepThrough, ForgetsKeepThrough, ImagesHaveThePresentMark};
 
 use nl_image::laws::store_images_have_the_present_mark;
 use nl_keep::laws::{forgets_keep_others, stores_keep_copies};
+use nl_manifests::laws::trees_show_one;
 
 /// The image of a closed pen has the present mark.
 pub fn images_have_the_present_mark()
@@ -26,4 +28,13 @@ pub fn backups_come_back()
     ensures { BackupsComeBack }
 {
     images_have_the_present_mark();
+}
+
+/// A folder of the host that was sealed and backed up is what is opened of what is restored, with its modes,
+/// times, owners and links, however many runs that keep it came between.
+pub fn folders_come_back()
+    ensures { FoldersComeBack }
+{
+    backups_come_back();
+    trees_show_one();
 }
