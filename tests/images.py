@@ -10,6 +10,7 @@ developers: the gate doesn't run it.
 usage: tests/images.py [--check]   (with --check nothing is written, and the files that differ are told)
 """
 
+import glob
 import os
 import struct
 import subprocess
@@ -402,9 +403,15 @@ def sum_of(image):
     return subprocess.run(["cksum"], input=image, stdout=subprocess.PIPE, check=True).stdout.decode().strip()
 
 
+def script_of(name):
+    """The script of a row, as a path in this folder. The row's other files have that path with an ending."""
+    [script] = glob.glob(os.path.join(FOLDER, "rows", "*", f"{name}.nlvol"))
+    return os.path.relpath(script, FOLDER)
+
+
 def arguments_of(name):
     """The values of the options that a row's program is started with."""
-    words = (contents("rows", name + ".nlvol.args") or b"").decode().replace("=", "\n").split()
+    words = (contents(script_of(name) + ".args") or b"").decode().replace("=", "\n").split()
     return dict(zip(words[::2], words[1::2]))
 
 
@@ -416,7 +423,7 @@ def row_of(name):
     else:
         volume = Volume(int(given.get("--segments", 64)), int(given.get("--blocks", 64)))
     session = Session(volume, configuration(given["--conf"]) if "--conf" in given else Configuration())
-    return session, session.run(contents("rows", name + ".nlvol"))
+    return session, session.run(contents(script_of(name)))
 
 
 def rows(data):
@@ -426,16 +433,17 @@ def rows(data):
     statuses = dict(line.split() for line in contents("statuses").decode().splitlines())
     for name in ROWS:
         session, printed = row_of(name)
-        made[f"rows/{name}.nlvol.stdout"] = printed.encode()
-        saved = (contents("rows", name + ".nlvol.saved") or b"").decode().split()
+        script = script_of(name)
+        made[f"{script}.stdout"] = printed.encode()
+        saved = (contents(f"{script}.saved") or b"").decode().split()
         if saved:
             image = session.end()
             if len(saved) == 2:
                 assert image == data[saved[1]], name
             else:
-                made[f"rows/{name}.nlvol.saved"] = f"{saved[0]} {sum_of(image)}\n".encode()
+                made[f"{script}.saved"] = f"{saved[0]} {sum_of(image)}\n".encode()
         elif "--save" in arguments_of(name):
-            made[f"errors/{name}"] = f"save: {session.refused_end()}\n".encode()
+            made[f"{script}.stderr"] = f"save: {session.refused_end()}\n".encode()
         statuses[name] = session.status
     made["statuses"] = "".join(f"{name} {statuses[name]}\n" for name in sorted(statuses)).encode()
     return made

@@ -1,6 +1,6 @@
 -- Numbers in words.
 use Rattle.std.specs.Prelude.{◌^◌, nat_lt, if◌then◌else◌, ℕ, List, Option, None, Some, option_and_then}
-use Rattle.nl_types.specs.Decimals.{decimal_in}
+use Rattle.nl_types.specs.Plain.Decimals.{decimal_in}
 
 -- a number of 32 bits
 abbrev pub small : ℕ → Option ℕ

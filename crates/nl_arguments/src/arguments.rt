@@ -20,7 +20,7 @@ pub struct Arguments {
 }
 
 impl Arguments {
-    ghost use Rattle.nl_types.specs.Limits.{IsGeometry};
+    ghost use Rattle.nl_types.specs.Plain.Limits.{IsGeometry};
 
     /// # Errors
     /// `BadGeometry` where the numbers are outside the limits of a volume.

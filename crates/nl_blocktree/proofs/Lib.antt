@@ -20,3 +20,9 @@ pub mod TreeHeights
 pub mod TreeRoots
 pub mod TreeReading
 pub mod UnchangedNodes
+pub mod Refusals
+pub mod MetEnds
+pub mod MetChains
+pub mod MetTrees
+pub mod SoundRoots
+pub mod ListedBlocks

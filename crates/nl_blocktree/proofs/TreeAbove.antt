@@ -5,7 +5,7 @@ use Rattle.std.proofs.Math.Nat.{div-div-eq-div-mul, div-one, pow-suc}
 use Rattle.std.proofs.lemmas.Bool.{cases_eq, eq-eqb, ne_eqb}
 use Rattle.std.proofs.lemmas.List.Elements.{All-append, All-push}
 use Rattle.smallvec.specs.SmallVec.{SmallVec}
-use Rattle.nl_types.specs.Roots.{Chain, Empty, OfChain, Pages, Root, Tree, below_top, chain_node, child, kind_of, numbered, place_at}
+use Rattle.nl_types.specs.Blocks.Roots.{Chain, Empty, OfChain, Pages, Root, Tree, below_top, chain_node, child, kind_of, numbered, place_at}
 use Rattle.nl_layout.specs.declared.root.Root.{Root as CodeRoot}
 use Rattle.nl_layout.specs.declared.root.Root.TheVariants as code
 use Rattle.nl_layout.specs.Root.{root_of}

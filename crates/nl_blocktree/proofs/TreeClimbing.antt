@@ -4,10 +4,10 @@ use Rattle.std.specs.List.{All, AllPairs, Contains}
 use Rattle.std.proofs.Math.Nat.{one-le-pow, pow-suc}
 use Rattle.std.proofs.lemmas.Bool.{both_ways, cases_eq, eq-eqb, eqb-true, ltb-true, lt-ltb}
 use Rattle.nl_types.specs.Facts.Births.{uncons}
-use Rattle.nl_types.specs.Entries.{Birth, Content}
-use Rattle.nl_types.specs.RootChanges.{IsSound, with_births}
-use Rattle.nl_types.specs.Roots.{Chain, Empty, Pages, Root, Tree, numbered, pages_of, place_at}
-use Rattle.nl_blocktree.specs.Private.Edits.{ComesBefore, IsEdited, IsTold, begins_low, edit_alone, top_edits, with_front}
+use Rattle.nl_types.specs.Blocks.Entries.{Birth, Content}
+use Rattle.nl_types.specs.Blocks.RootChanges.{IsSound, with_births}
+use Rattle.nl_types.specs.Blocks.Roots.{Chain, Empty, Pages, Root, Tree, numbered, pages_of, place_at}
+use Rattle.nl_blocktree.specs.Private.Edits.{ComesBefore, IsEdited, AreToldByEdits, begins_low, edit_alone, top_edits, with_front}
 use Rattle.nl_blocktree.specs.Private.Renewing.{Climbs, IsClimbed}
 use Rattle.nl_blocktree.specs.Private.TreeLevels.{kept_levels, tree_height}
 use Rattle.nl_blocktree.specs.Private.Writing.{PutsLevel}
@@ -122,7 +122,7 @@ top_narrow (Tree old top) level height n ups p a =
     with (suc i) d l = a i d (omega arith)
 
 pub top_told : (pages : Pages) (root : Root) (level height : ℕ) (ups : List Edit) → 1 ≤ level
-    → IsTold pages root level height (top_edits root level height ups)
+    → AreToldByEdits pages root level height (top_edits root level height ups)
 top_told pages Empty level height ups one low l i v e =
     let no : None ≡ Some v = sym (none_over pages Empty level i (omega arith)) ∙ e in cc
 top_told pages (Chain top) level height ups one low l i v e =
@@ -192,7 +192,7 @@ front_on {content} {inode} root below height {ups} {mid} {ys} {asked} {first} {q
 pub climb_more : {content : Content} {inode : ℕ} {root : Root} (below height top : ℕ) {edits ups : List Edit}
     {births mid new : List Birth} {zs ys ends : List ℕ}
     → IsSound (pages_of content) root → below < height →
-    IsTold (pages_of content) root below height edits →
+    AreToldByEdits (pages_of content) root below height edits →
     PutsLevel content inode (suc below) (kept_levels (pages_of content) root (suc below))
     (kept_levels (pages_of content) root below) edits ups births mid zs ys
     →
@@ -252,7 +252,7 @@ at_top {content} {inode} {root} below height {edits} d {births} {zs} sound one w
 pub climb_up : {content : Content} {inode : ℕ} {root : Root} (below height top : ℕ) {edits ups : List Edit}
     (told : List Edit) {births mid new : List Birth} {zs ys ends : List ℕ}
     → IsSound (pages_of content) root → below < height →
-    IsTold (pages_of content) root below height edits →
+    AreToldByEdits (pages_of content) root below height edits →
     PutsLevel content inode (suc below) (kept_levels (pages_of content) root (suc below))
     (kept_levels (pages_of content) root below) edits ups births mid zs ys
     →
@@ -323,7 +323,7 @@ told_narrow {edits = edits} {ups = ups} root below height told h low narrow is =
         (k, l, any_default ups k (get_or ups k d) d l)
 
 pub told_told : (pages : Pages) (root : Root) (below height : ℕ) (ups told : List Edit)
-    → told ≡ top_edits root (below + 1) height ups → IsTold pages root (below + 1) height told
+    → told ≡ top_edits root (below + 1) height ups → AreToldByEdits pages root (below + 1) height told
 told_told pages root below height ups told is =
-    subst (λ (es : List Edit). IsTold pages root (below + 1) height es) (sym is)
+    subst (λ (es : List Edit). AreToldByEdits pages root (below + 1) height es) (sym is)
     (top_told pages root (below + 1) height ups (omega arith))

@@ -4,9 +4,9 @@ use Rattle.std.specs.List.{AllPairs, Contains}
 use Rattle.std.specs.Option.{IsSome}
 use Rattle.std.proofs.lemmas.Bool.{cases_eq, cases_lt, eq-eqb, ne_eqb}
 use Rattle.std.proofs.lemmas.List.Elements.{Contains-append_cases, Contains-append_left, Contains-append_right}
-use Rattle.nl_types.specs.Entries.{Birth, Content}
-use Rattle.nl_types.specs.RootChanges.{InPayloadOrder, Includes, IsAt, PrecedesInPayload, born, with_births}
-use Rattle.nl_types.specs.Roots.{Tree, child, numbered, pages_of, place_at}
+use Rattle.nl_types.specs.Blocks.Entries.{Birth, Content}
+use Rattle.nl_types.specs.Blocks.RootChanges.{InPayloadOrder, Includes, IsAt, PrecedesInPayload, born, with_births}
+use Rattle.nl_types.specs.Blocks.Roots.{Tree, child, numbered, pages_of, place_at}
 use Rattle.nl_vstore.specs.Batches.{TakeLowestFree}
 use Rattle.nl_blocktree.specs.Numbering.{IsUnused}
 use Rattle.nl_blocktree.specs.Private.Edits.{ComesBefore, IsEdited, edit_alone, edited}

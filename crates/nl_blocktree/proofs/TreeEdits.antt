@@ -5,9 +5,9 @@ use Rattle.std.specs.Option.{option_and_then, IsSome}
 use Rattle.std.proofs.lemmas.Bool.{cases_eq, eq-eqb, ne_eqb}
 use Rattle.std.proofs.lemmas.List.Elements.{Contains-get_or}
 use Rattle.nl_types.specs.Facts.Births.{uncons}
-use Rattle.nl_types.specs.Entries.{Birth, Content}
-use Rattle.nl_types.specs.RootChanges.{Includes, born, with_births}
-use Rattle.nl_types.specs.Roots.{Pages, child, numbered, pages_of, slot}
+use Rattle.nl_types.specs.Blocks.Entries.{Birth, Content}
+use Rattle.nl_types.specs.Blocks.RootChanges.{Includes, born, with_births}
+use Rattle.nl_types.specs.Blocks.Roots.{Pages, child, numbered, pages_of, slot}
 use Rattle.nl_vstore.specs.Batches.{TakeLowestFree}
 use Rattle.nl_blocktree.specs.Private.Edits.{ComesBefore, edited}
 use Rattle.nl_blocktree.specs.Private.Writing.{NodeBecomes, PlaceBecomes, PutsLevel, stays}

@@ -2,11 +2,11 @@
 use Rattle.std.proofs.Common.{◌≡◌, ℕ, suc, ◌+◌, ◌*◌, ◌<◌, ◌≤◌, List, Option, Some, None, refl, sym, subst, ◌∙◌, arith, inl, inr, ◌⊎◌}
 use Rattle.std.specs.Option.{IsSome}
 use Rattle.std.proofs.lemmas.Bool.{cases_eq, cases_lt, ne_eqb, eq-eqb}
-use Rattle.nl_types.specs.Entries.{Birth, Content}
-use Rattle.nl_types.specs.RootChanges.{with_births}
-use Rattle.nl_types.specs.Roots.{Empty, Pages, Tree, numbered, pages_of, place_at}
+use Rattle.nl_types.specs.Blocks.Entries.{Birth, Content}
+use Rattle.nl_types.specs.Blocks.RootChanges.{with_births}
+use Rattle.nl_types.specs.Blocks.Roots.{Empty, Pages, Tree, numbered, pages_of, place_at}
 use Rattle.nl_blocktree.specs.Private.Renewing.{IsRenewed}
-use Rattle.nl_blocktree.specs.Private.TreeLevels.{AreLevels, IsFull, Levels, only}
+use Rattle.nl_blocktree.specs.Private.TreeLevels.{AreLevels, HasFullNodes, Levels, only}
 use Rattle.nl_blocktree.specs.declared.tree.Edit.{Edit}
 use Rattle.nl_blocktree.specs.Facts.TreeLevels.{levels_are, tree_above}
 
@@ -52,7 +52,7 @@ pub full_places : (pages : Pages) (height top : ℕ) (levels : Levels)
     → ((l offset : ℕ) → l ≤ height → place_at pages (Tree height top) l offset ≡ levels l offset) →
     ((l offset v : ℕ) → l < height → levels (suc l) offset ≡ Some v
     → (s : ℕ) × (s < 128) × IsSome (levels l (128 * offset + s)))
-    → IsFull pages height top
+    → HasFullNodes pages height top
 full_places pages height top levels same full l offset v low e =
     let r = full l offset v low (sym (same (suc l) offset low) ∙ e) in
     (r.0, r.1, subst (λ (o : Option ℕ). IsSome o) (sym (same l (128 * offset + r.0) (omega arith))) r.2)

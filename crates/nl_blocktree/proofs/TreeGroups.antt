@@ -6,9 +6,9 @@ use Rattle.std.proofs.lemmas.Bool.{cases_eq, eq-eqb, ne_eqb}
 use Rattle.std.proofs.lemmas.List.{append-nil}
 use Rattle.std.proofs.lemmas.List.Elements.{Contains-append_cases, Contains-append_left, Contains-append_right, Contains-push}
 use Rattle.smallvec.specs.SmallVec.{SmallVec}
-use Rattle.nl_types.specs.Entries.{Birth, Content}
-use Rattle.nl_types.specs.RootChanges.{InPayloadOrder, IsSound, PrecedesInPayload}
-use Rattle.nl_types.specs.Roots.{Tree, pages_of, place_at}
+use Rattle.nl_types.specs.Blocks.Entries.{Birth, Content}
+use Rattle.nl_types.specs.Blocks.RootChanges.{InPayloadOrder, IsSound, PrecedesInPayload}
+use Rattle.nl_types.specs.Blocks.Roots.{Tree, pages_of, place_at}
 use Rattle.nl_vstore.specs.Batches.{IsLowestFree, TakeLowestFree}
 use Rattle.nl_blocktree.specs.Private.Edits.{ComesBefore, edited}
 use Rattle.nl_blocktree.specs.Private.TreeLevels.{AreOldLevels}

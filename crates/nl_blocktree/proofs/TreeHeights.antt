@@ -7,14 +7,14 @@ use Rattle.std.proofs.lemmas.Bool.{both_ways, cases_eq, cases_lt, ne_eqb, or_cas
 use Rattle.std.proofs.lemmas.List.{append-nil, get_or_append_left, get_or_push, length_push}
 use Rattle.std.proofs.lemmas.List.Elements.{Contains-append_cases, Contains-append_left, Contains-push}
 use Rattle.nl_types.specs.Facts.Births.{uncons}
-use Rattle.nl_types.specs.Entries.{Birth, Content, number_of}
-use Rattle.nl_types.specs.RootChanges.{InPayloadOrder, IsAt, PrecedesInPayload, born, with_births}
-use Rattle.nl_types.specs.Roots.{Pages, Root, Tree, child, numbered, pages_of, place_at, slot}
+use Rattle.nl_types.specs.Blocks.Entries.{Birth, Content, number_of}
+use Rattle.nl_types.specs.Blocks.RootChanges.{InPayloadOrder, IsAt, PrecedesInPayload, born, with_births}
+use Rattle.nl_types.specs.Blocks.Roots.{Pages, Root, Tree, child, numbered, pages_of, place_at, slot}
 use Rattle.nl_vstore.specs.Facts.BatchLaws.{Fits-birth, Fits-end}
 use Rattle.nl_vstore.specs.Batches.{Changes, CanBeTaken, IsLowestFree, TakeLowestFree, is_born, last_number}
 use Rattle.nl_blocktree.specs.Numbering.{IsUnused}
 use Rattle.nl_blocktree.specs.Private.Renewing.{HasBegun, IsLowered, IsNewTree, IsRenewed, TopDropped, TopPage}
-use Rattle.nl_blocktree.specs.Private.TreeLevels.{IsFull, Levels, only}
+use Rattle.nl_blocktree.specs.Private.TreeLevels.{HasFullNodes, Levels, only}
 use Rattle.nl_blocktree.specs.declared.tree.Edit.{Edit}
 use Rattle.nl_blocktree.specs.Private.Writing as shapes
 use Rattle.nl_blocktree.specs.Facts.Frames.{births-keep}
@@ -433,7 +433,7 @@ lowered_more {room} {content} {begun} {top}
         (place_at (with_births (first ++ r.0) (pages_of content)) (Tree height below)) asked first
         (first ++ r.0) zs es)
         (sym d.3) renewed))
-        (subst (λ (bs : List Birth). IsFull (with_births bs (pages_of content)) height below)
+        (subst (λ (bs : List Birth). HasFullNodes (with_births bs (pages_of content)) height below)
         (sym births) low)
     by (inr d) =
         let there = top_old height top begun begins h named d.0 in
@@ -449,7 +449,7 @@ lowered_more {room} {content} {begun} {top}
         (place_at (with_births m.births (pages_of content)) (Tree height below)) asked first m.births zs
         m.ends)
         (sym d.1) ended)
-        (subst (λ (m : Changes). IsFull (with_births m.births (pages_of content)) height below) (sym d.1) low)
+        (subst (λ (m : Changes). HasFullNodes (with_births m.births (pages_of content)) height below) (sym d.1) low)
 
 -- ---- as the function lowers
 

@@ -2,9 +2,9 @@
 use Rattle.std.proofs.Common.{◌≡◌, ◌≢◌, ℕ, zero, suc, ◌<◌, ◌≤◌, Some, None, true, refl, sym, subst, ◌∙◌, arith, inl, inr}
 use Rattle.std.specs.Option.{IsSome}
 use Rattle.std.proofs.lemmas.Bool.{cases_eq, ne_eqb}
-use Rattle.nl_types.specs.Entries.{Content}
-use Rattle.nl_types.specs.RootChanges.{IsSound}
-use Rattle.nl_types.specs.Roots.{Chain, Empty, Pages, Root, Tree, pages_of, place_at}
+use Rattle.nl_types.specs.Blocks.Entries.{Content}
+use Rattle.nl_types.specs.Blocks.RootChanges.{IsSound}
+use Rattle.nl_types.specs.Blocks.Roots.{Chain, Empty, Pages, Root, Tree, pages_of, place_at}
 use Rattle.nl_vstore.specs.Batches.{is_live}
 use Rattle.nl_blocktree.specs.Numbering.{IsLive}
 use Rattle.nl_blocktree.specs.Private.TreeLevels.{AreOldLevels, kept_levels, tree_height}

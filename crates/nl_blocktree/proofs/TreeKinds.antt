@@ -3,9 +3,9 @@ use Rattle.std.proofs.Common.{◌≡◌, ◌≢◌, ℕ, zero, suc, ◌/◌, ◌
 use Rattle.std.specs.List.{AllPairs, Contains}
 use Rattle.std.specs.Option.{IsSome}
 use Rattle.std.proofs.lemmas.List.Elements.{Contains-append_cases, Contains-append_left, Contains-append_right}
-use Rattle.nl_types.specs.Entries.{Birth, Content}
-use Rattle.nl_types.specs.RootChanges.{NodeWritten, born, of_tree, was_absent}
-use Rattle.nl_types.specs.Roots.{Chain, Empty, OfChain, OfTree, Pages, Root, Tree, kind_of, page_at, pages_of, place_at}
+use Rattle.nl_types.specs.Blocks.Entries.{Birth, Content}
+use Rattle.nl_types.specs.Blocks.RootChanges.{NodeWritten, born, of_tree, was_absent}
+use Rattle.nl_types.specs.Blocks.Roots.{Chain, Empty, OfChain, OfTree, Pages, Root, Tree, kind_of, page_at, pages_of, place_at}
 use Rattle.nl_blocktree.specs.Private.Edits.{IsEdited}
 use Rattle.nl_blocktree.specs.Private.Renewing.{IsRenewed}
 use Rattle.nl_blocktree.specs.Private.TreeLevels.{Levels, data_alone}

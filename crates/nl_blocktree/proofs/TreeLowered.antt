@@ -7,12 +7,12 @@ use Rattle.std.proofs.lemmas.Bool.{cases_eq, cases_lt, eq-eqb, ne_eqb}
 use Rattle.std.proofs.lemmas.List.{get_or_append_left, get_or_push, length_push}
 use Rattle.std.proofs.lemmas.List.Elements.{Contains-append_cases, Contains-append_left, Contains-push}
 use Rattle.nl_types.specs.Facts.Births.{uncons}
-use Rattle.nl_types.specs.Entries.{Birth, Content}
-use Rattle.nl_types.specs.RootChanges.{InPayloadOrder, IsAt, PrecedesInPayload, born, with_births}
-use Rattle.nl_types.specs.Roots.{Pages, Tree, child, numbered, pages_of, place_at, slot}
+use Rattle.nl_types.specs.Blocks.Entries.{Birth, Content}
+use Rattle.nl_types.specs.Blocks.RootChanges.{InPayloadOrder, IsAt, PrecedesInPayload, born, with_births}
+use Rattle.nl_types.specs.Blocks.Roots.{Pages, Tree, child, numbered, pages_of, place_at, slot}
 use Rattle.nl_vstore.specs.Batches.{TakeLowestFree}
 use Rattle.nl_blocktree.specs.Private.Renewing.{IsRenewed}
-use Rattle.nl_blocktree.specs.Private.TreeLevels.{AreLevels, IsFull, Levels, only}
+use Rattle.nl_blocktree.specs.Private.TreeLevels.{AreLevels, HasFullNodes, Levels, only}
 use Rattle.nl_blocktree.specs.Private.Writing.{PlaceBecomes}
 use Rattle.nl_blocktree.specs.declared.tree.Edit.{Edit}
 use Rattle.nl_blocktree.specs.Private.Writing as shapes
@@ -270,8 +270,8 @@ module _ (height top below : ℕ) {content : Content} {inode : ℕ} {prior old :
           | shapes.goes s g ↦ g v e
         ]
 
-    pub untaken_full : IsFull (with_births all (pages_of content)) (suc height) top
-        → IsFull (with_births (births ++ init) (pages_of content)) height below
+    pub untaken_full : HasFullNodes (with_births all (pages_of content)) (suc height) top
+        → HasFullNodes (with_births (births ++ init) (pages_of content)) height below
     unfolding pages
     untaken_full full =
         full_places (with_births (births ++ init) (pages_of content)) height below
@@ -392,8 +392,8 @@ module _ (height top below : ℕ) {content : Content} {inode : ℕ} {prior old :
           | shapes.goes s g ↦ more v (g v e)
         ]
 
-    pub ended_full : IsFull (with_births all (pages_of content)) (suc height) top
-        → IsFull (with_births all (pages_of content)) height below
+    pub ended_full : HasFullNodes (with_births all (pages_of content)) (suc height) top
+        → HasFullNodes (with_births all (pages_of content)) height below
     ended_full full =
         full_places (with_births all (pages_of content)) height below
         (place_at (with_births all (pages_of content)) (Tree (suc height) top)) low_is

@@ -4,9 +4,9 @@ use Rattle.std.specs.List.{Contains}
 use Rattle.std.specs.Option.{option_and_then, IsSome}
 use Rattle.std.proofs.Math.Nat.{div-le_self, div-one}
 use Rattle.std.proofs.lemmas.List.Elements.{Contains-append_cases}
-use Rattle.nl_types.specs.Entries.{Birth, Content}
-use Rattle.nl_types.specs.RootChanges.{HasTreeShape, Includes, IsSound, NodeWritten, RewritesFile, born, with_births}
-use Rattle.nl_types.specs.Roots.{NoBlocks, OfChain, OfTree, Pages, Root, height_of, kind_of, numbered, page_at, pages_of, place_at}
+use Rattle.nl_types.specs.Blocks.Entries.{Birth, Content}
+use Rattle.nl_types.specs.Blocks.RootChanges.{HasTreeShape, Includes, IsSound, NodeWritten, RewritesFile, born, with_births}
+use Rattle.nl_types.specs.Blocks.Roots.{NoBlocks, OfChain, OfTree, Pages, Root, height_of, kind_of, numbered, page_at, pages_of, place_at}
 use Rattle.nl_blocktree.specs.Changed.{blocks_with, indexes}
 use Rattle.nl_blocktree.specs.Numbering.{IsUnused}
 use Rattle.nl_blocktree.specs.declared.change.BlockChange.{BlockChange}

@@ -1,8 +1,8 @@
 -- What stands at a place of each kind of root, as it is read.
 use Rattle.std.proofs.Common.{◌≡◌, ℕ, ◌-◌, ◌/◌, ◌%◌, ◌<◌, ◌≤◌, None, refl, ap, arith, inl, inr}
 use Rattle.std.proofs.lemmas.Bool.{cases_eq}
-use Rattle.nl_types.specs.Roots as roots
-use Rattle.nl_types.specs.Roots.{Pages, below_top, chain_node, child, numbered, place_at}
+use Rattle.nl_types.specs.Blocks.Roots as roots
+use Rattle.nl_types.specs.Blocks.Roots.{Pages, below_top, chain_node, child, numbered, place_at}
 use Rattle.nl_blocktree.specs.Private.Chains.{slots_below}
 use Rattle.nl_blocktree.specs.Facts.TreeLevels.{tree_above, tree_child, tree_place}
 

@@ -3,9 +3,9 @@ use Rattle.std.proofs.Common.{◌≡◌, ◌≢◌, ℕ, zero, suc, List, get_or
 use Rattle.std.specs.List.{Contains}
 use Rattle.std.specs.Option.{option_and_then, IsSome}
 use Rattle.std.proofs.lemmas.List.Elements.{Contains-append_cases, Contains-append_right, Contains-get_or}
-use Rattle.nl_types.specs.Entries.{Birth, Content}
-use Rattle.nl_types.specs.RootChanges.{Includes, IsAt, IsWrittenPlace, NodeWritten, Reaches, RewritesFile, born, new_kind, of_chain, of_tree, places, was_absent, with_births}
-use Rattle.nl_types.specs.Roots.{OfChain, Pages, Root, kind_of, page_at, pages_of, place_at}
+use Rattle.nl_types.specs.Blocks.Entries.{Birth, Content}
+use Rattle.nl_types.specs.Blocks.RootChanges.{Includes, IsAt, IsWrittenPlace, NodeWritten, Reaches, RewritesFile, born, new_kind, of_chain, of_tree, places, was_absent, with_births}
+use Rattle.nl_types.specs.Blocks.Roots.{OfChain, Pages, Root, kind_of, page_at, pages_of, place_at}
 use Rattle.nl_blocktree.specs.Numbering.{IsUnused}
 use Rattle.nl_blocktree.specs.Private.Edits.{IsEdited}
 use Rattle.nl_blocktree.specs.Private.Renewing.{IsRenewed}

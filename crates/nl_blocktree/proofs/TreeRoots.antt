@@ -7,9 +7,9 @@ use Rattle.std.specs.Option.{option_and_then}
 use Rattle.std.proofs.lemmas.Bool.{cases_lt}
 use Rattle.std.proofs.lemmas.List.Elements.{Contains-append_right}
 use Rattle.std.proofs.lemmas.Option.{slice_get-get_or, slice_get_past}
-use Rattle.nl_types.specs.Entries.{Birth, Content}
-use Rattle.nl_types.specs.RootChanges.{Includes, IsSound, KeepsFile, born, with_births}
-use Rattle.nl_types.specs.Roots.{Chain, Empty, NoBlocks, OfChain, OfTree, Pages, Root, Tree, chain_node, kind_of, numbered, pages_of, place_at, slot}
+use Rattle.nl_types.specs.Blocks.Entries.{Birth, Content}
+use Rattle.nl_types.specs.Blocks.RootChanges.{Includes, IsSound, KeepsFile, born, with_births}
+use Rattle.nl_types.specs.Blocks.Roots.{Chain, Empty, NoBlocks, OfChain, OfTree, Pages, Root, Tree, chain_node, kind_of, numbered, pages_of, place_at, slot}
 use Rattle.nl_vstore.specs.Batches.{Changes, CanBeTaken}
 use Rattle.nl_blocktree.specs.Private.Chains.{ChainAsLists, raw}
 use Rattle.nl_blocktree.specs.Changed.{indexes}

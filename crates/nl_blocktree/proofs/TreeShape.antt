@@ -3,8 +3,8 @@ use Rattle.std.proofs.Common.{◌≡◌, ℕ, zero, suc, ◌+◌, ◌*◌, ◌/�
 use Rattle.std.specs.Option.{IsSome}
 use Rattle.std.proofs.Math.Nat.{div-mul-le_self, div-one}
 use Rattle.std.proofs.lemmas.Bool.{cases_lt}
-use Rattle.nl_types.specs.Roots.{Pages, Tree, place_at}
-use Rattle.nl_types.specs.RootChanges.{HasTreeShape}
+use Rattle.nl_types.specs.Blocks.Roots.{Pages, Tree, place_at}
+use Rattle.nl_types.specs.Blocks.RootChanges.{HasTreeShape}
 use Rattle.nl_blocktree.specs.Facts.Staying.{some-is, some-of}
 use Rattle.nl_blocktree.specs.Facts.TreeLevels.{div-pow-suc, least_by, node_above, tree_above}
 

@@ -3,7 +3,7 @@ use Rattle.std.proofs.Common.{◌≡◌, ◌≢◌, ℕ, zero, suc, ◌+◌, ◌
 use Rattle.std.specs.List.{All, AllPairs, Contains}
 use Rattle.std.proofs.lemmas.Bool.{cases_eq, cases_lt, eq-eqb, ne_eqb}
 use Rattle.std.proofs.lemmas.List.{get_or_past, get_or-set_same, get_or-set_other, get_or-take, take_more, length-take}
-use Rattle.nl_types.specs.Roots.{numbered}
+use Rattle.nl_types.specs.Blocks.Roots.{numbered}
 use Rattle.nl_blocktree.specs.Private.Edits.{ComesBefore, IsEdited, TellsAll, edit_alone, edited, edits_from}
 use Rattle.nl_blocktree.specs.declared.tree.Edit.{Edit}
 use Rattle.nl_blocktree.specs.Facts.Pairwise.{in_lone}

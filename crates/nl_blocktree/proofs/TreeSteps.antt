@@ -5,9 +5,9 @@ use Rattle.std.specs.Option.{IsSome}
 use Rattle.std.proofs.lemmas.Bool.{cases_eq, cases_lt}
 use Rattle.std.proofs.lemmas.List.{append-nil, get_or-drop, get_or-take, length-drop, length-take}
 use Rattle.smallvec.specs.SmallVec.{SmallVec}
-use Rattle.nl_types.specs.Entries.{Birth, Content}
-use Rattle.nl_types.specs.RootChanges.{IsSound}
-use Rattle.nl_types.specs.Roots.{Root, child, pages_of}
+use Rattle.nl_types.specs.Blocks.Entries.{Birth, Content}
+use Rattle.nl_types.specs.Blocks.RootChanges.{IsSound}
+use Rattle.nl_types.specs.Blocks.Roots.{Root, child, pages_of}
 use Rattle.nl_blocktree.specs.Private.Edits.{ComesBefore, IsEdited, edited}
 use Rattle.nl_blocktree.specs.Private.TreeLevels.{kept_levels, tree_height}
 use Rattle.nl_blocktree.specs.Private.Writing.{PutsLevel, PutsNode, slots_with}

@@ -3,9 +3,9 @@ use Rattle.std.proofs.Common.{◌≡◌, ◌≢◌, ℕ, suc, ◌+◌, ◌*◌, 
 use Rattle.std.specs.List.{Contains}
 use Rattle.std.specs.Option.{IsSome}
 use Rattle.std.proofs.lemmas.List.Elements.{Contains-append_cases}
-use Rattle.nl_types.specs.Entries.{Birth, Content}
-use Rattle.nl_types.specs.RootChanges.{Includes, IsSound, NodeWritten, born, new_kind, with_births}
-use Rattle.nl_types.specs.Roots.{Empty, OfChain, Pages, Root, Tree, kind_of, numbered, pages_of, place_at}
+use Rattle.nl_types.specs.Blocks.Entries.{Birth, Content}
+use Rattle.nl_types.specs.Blocks.RootChanges.{Includes, IsSound, NodeWritten, born, new_kind, with_births}
+use Rattle.nl_types.specs.Blocks.Roots.{Empty, OfChain, Pages, Root, Tree, kind_of, numbered, pages_of, place_at}
 use Rattle.nl_blocktree.specs.Changed.{indexes}
 use Rattle.nl_blocktree.specs.Numbering.{IsUnused}
 use Rattle.nl_blocktree.specs.Putting.{IsWrittenKind, PutsAll}

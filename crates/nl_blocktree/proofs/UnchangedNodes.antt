@@ -2,9 +2,9 @@
 -- at its place.
 use Rattle.std.proofs.Common.{◌≡◌, ℕ, suc, ◌/◌, ◌^◌, List, Option, Some, None, refl, ap, sym, subst, ◌∙◌, inl, inr}
 use Rattle.std.specs.Option.{IsSome, option_and_then}
-use Rattle.nl_types.specs.Entries.{Birth, Content}
-use Rattle.nl_types.specs.RootChanges.{IsAt, IsWrittenPlace, NodeWritten, with_births, was_absent, new_kind, of_chain, of_tree}
-use Rattle.nl_types.specs.Roots.{Chain, Empty, OfChain, OfTree, Root, Tree, kind_of, page_at, pages_of, place_at}
+use Rattle.nl_types.specs.Blocks.Entries.{Birth, Content}
+use Rattle.nl_types.specs.Blocks.RootChanges.{IsAt, IsWrittenPlace, NodeWritten, with_births, was_absent, new_kind, of_chain, of_tree}
+use Rattle.nl_types.specs.Blocks.Roots.{Chain, Empty, OfChain, OfTree, Root, Tree, kind_of, page_at, pages_of, place_at}
 use Rattle.nl_vstore.specs.Batches.{Changes}
 use Rattle.nl_blocktree.specs.Putting.{NodesKeepNumbers, NodesStay, PutsAll}
 use Rattle.nl_blocktree.specs.declared.change.BlockChange.{BlockChange}

@@ -3,6 +3,9 @@ pub mod Chains
 pub mod Ended
 pub mod Frames
 pub mod HeldPages
+pub mod LowOffsets
+pub mod MetPlaces
+pub mod MetRanges
 pub mod Numbers
 pub mod Pairwise
 pub mod Reading
@@ -10,3 +13,4 @@ pub mod RootByRoot
 pub mod Staying
 pub mod TreeData
 pub mod TreeLevels
+pub mod TreePlaces

@@ -2,5 +2,9 @@ pub mod Changed
 pub mod Numbering
 pub mod Putting
 pub mod Checkpoints
+pub mod FileShapes
+pub mod Listed
+pub mod TreePlaces
+pub mod Walked
 pub mod Facts
 pub mod Private

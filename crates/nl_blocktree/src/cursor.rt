@@ -1,6 +1,6 @@
 //! Reading a file's blocks one after another.
 ghost use Rattle.std.specs.Prelude.{◌≡◌, ◌≢◌, ◌/◌, ℕ, false, option_copied};
-ghost use Rattle.nl_types.specs.Roots.{Tree, page_at, place_at};
+ghost use Rattle.nl_types.specs.Blocks.Roots.{Tree, page_at, place_at};
 ghost use Rattle.nl_layout.specs.Root.{root_of};
 ghost use Rattle.nl_blocktree.specs.Private.Chains.{slots_below};
 

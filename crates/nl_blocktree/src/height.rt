@@ -1,8 +1,8 @@
 //! The height of a tree that was written anew: it becomes as low as can be.
 ghost use Rattle.std.specs.Prelude.{◌≡◌, ◌≢◌, ◌↔◌, ◌≤◌, ◌<◌, ◌+◌, ◌++◌, ◌∷◌, [], ℕ, List, Some, None, false, IsTrue, length, option_copied, IfOk, IfErr};
 ghost use Rattle.std.specs.Option.{IsSome, option_and_then};
-ghost use Rattle.nl_types.specs.Entries.{Birth};
-ghost use Rattle.nl_types.specs.Roots.{slot};
+ghost use Rattle.nl_types.specs.Blocks.Entries.{Birth};
+ghost use Rattle.nl_types.specs.Blocks.Roots.{slot};
 ghost use Rattle.nl_layout.specs.Root.{root_of};
 ghost use Rattle.nl_vstore.specs.Batches.{Changes, last_number};
 ghost use Rattle.nl_vstore.specs.Stores.{capacity, content_in};

@@ -1,8 +1,7 @@
 //! The levels of a tree that is written anew, from the lowest one up.
-ghost use Rattle.std.specs.Prelude.{◌≡◌, ◌≢◌, ◌≤◌, ◌<◌, ◌+◌, ◌/◌, ◌-◌, ◌^◌, ◌++◌, ℕ, Some, not, length, slice_index, slice_index_or, IfOk, IfErr, All};
-ghost use Rattle.std.specs.List.{AllPairs};
-ghost use Rattle.nl_types.specs.Limits as limits;
-ghost use Rattle.nl_types.specs.Roots.{numbered, pages_of};
+ghost use Rattle.std.specs.Prelude.{◌≡◌, ◌≢◌, ◌≤◌, ◌<◌, ◌+◌, ◌/◌, ◌-◌, ◌++◌, ℕ, Some, not, length, slice_index, slice_index_or, IfOk, IfErr, All};
+ghost use Rattle.nl_types.specs.Plain.Limits as limits;
+ghost use Rattle.nl_types.specs.Blocks.Roots.{numbered};
 ghost use Rattle.nl_layout.specs.Root.{root_of};
 ghost use Rattle.nl_vstore.specs.Stores.{content_in};
 ghost use Rattle.nl_blocktree.specs.Private.Edits.{Above, IsEdited, KnowAbove, begins_low, edit_of, top_edits, with_front};

@@ -1,7 +1,7 @@
 //! The way to the data of a file: what stands at an index, and which nodes stand above it.
 ghost use Rattle.std.specs.Prelude.{◌≡◌, ◌≤◌, ◌/◌, [], ◌∷◌};
 ghost use Rattle.smallvec.specs.SmallVec.{HasRoomFor, small_vec_len};
-ghost use Rattle.nl_types.specs.Roots.{OfChain, below_top, kind_of, place_at};
+ghost use Rattle.nl_types.specs.Blocks.Roots.{OfChain, below_top, kind_of, place_at};
 ghost use Rattle.nl_layout.specs.Root.{root_of};
 ghost use Rattle.nl_blocktree.specs.Private.Chains.{raw};
 ghost use Rattle.nl_blocktree.specs.Private.Edits.{TellsAbove};
@@ -84,7 +84,7 @@ fn chain_path<V: VRead>(
     bare_path(alloc, number, *read)
 }
 
-#[tactic(auto, unfolding(nl_types::specs::Roots::below_top))]
+#[tactic(auto, unfolding(nl_types::specs::Blocks::Roots::below_top))]
 /// The way to the block of a tree at an offset so many levels below its top.
 fn path_below<V: VRead>(
     alloc: Global,

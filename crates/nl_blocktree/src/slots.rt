@@ -1,8 +1,8 @@
 //! The slots of nodes as lists, one node after the other.
 ghost use Rattle.std.specs.Prelude.{◌≡◌, ◌≢◌, ◌≤◌, ◌<◌, ◌+◌, ℕ, length, slice_index, IfOk, IfErr, All};
 ghost use Rattle.std.specs.List.{AllPairs};
-ghost use Rattle.nl_types.specs.Limits as limits;
-ghost use Rattle.nl_types.specs.Roots.{numbered};
+ghost use Rattle.nl_types.specs.Plain.Limits as limits;
+ghost use Rattle.nl_types.specs.Blocks.Roots.{numbered};
 ghost use Rattle.nl_blocktree.specs.Private.Edits.{ComesBefore, TellsAll, edited, edits_from};
 
 use crate::tree::{Edit, edit_alone};

@@ -1,9 +1,9 @@
 //! The nodes of a tree that is written anew, one by one.
 ghost use Rattle.std.specs.Prelude.{◌≡◌, ◌≢◌, ◌<◌, ◌+◌, ◌++◌, ◌*◌, ◌/◌, ◌%◌, ℕ, Some, None, length, slice_index, true, false, take, IfOk, IfErr, IsTrue, All};
 ghost use Rattle.std.specs.List.{AllPairs};
-ghost use Rattle.nl_types.specs.Limits as limits;
-ghost use Rattle.nl_types.specs.Entries.{Content};
-ghost use Rattle.nl_types.specs.Roots.{child, numbered, pages_of, slot};
+ghost use Rattle.nl_types.specs.Plain.Limits as limits;
+ghost use Rattle.nl_types.specs.Blocks.Entries.{Content};
+ghost use Rattle.nl_types.specs.Blocks.Roots.{child, numbered, pages_of, slot};
 ghost use Rattle.nl_vstore.specs.Batches.{CanBeTaken, is_live};
 ghost use Rattle.nl_vstore.specs.Stores.{content_in};
 ghost use Rattle.nl_blocktree.specs.Private.Edits.{ComesBefore, edit_alone, edited};
@@ -72,7 +72,7 @@ fn put_edits(slots: &mut [VirtualNumber], offset: u64, group: &[Edit])
     ensures count { length slots.new ≡ 128 }
 {
     for edit in group {
-        slots[(edit.offset % 128) as usize] = edit.number;
+        slots[(edit.offset % SLOTS as u64) as usize] = edit.number;
     }
 }
 

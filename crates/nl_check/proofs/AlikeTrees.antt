@@ -1,8 +1,8 @@
 -- Inodes form a tree, where others do that hold the same names.
 use Rattle.std.proofs.Common.{◌≡◌, ℕ, [], ◌∷◌, Option, Some, None, refl, ap, sym, ◌∙◌}
 use Rattle.std.specs.Option.{option_and_then}
-use Rattle.nl_types.specs.Paths.{Name, Path}
-use Rattle.nl_types.specs.Trees.{node_kind}
+use Rattle.nl_types.specs.Plain.Paths.{Name, Path}
+use Rattle.nl_types.specs.Plain.Trees.{node_kind}
 use Rattle.nl_types.specs.Inodes.{Link, InodeContent, Bytes, Records, Inodes, inode_named, node_of, reached}
 use Rattle.nl_check.specs.InodeTrees.{FormTree, Names}
 use Rattle.nl_check.specs.Private.AlikeNames.{AreAlike, NamesAlike}

@@ -2,14 +2,14 @@
 use Rattle.std.proofs.Common.{◌≡◌, ◌⊎◌, ℕ, zero, suc, ◌+◌, ◌*◌, ◌-◌, ◌/◌, ◌%◌, ◌^◌, ◌<◌, ◌≤◌, Option, Some, None, refl, ap, sym, subst, ◌∙◌, inl, inr, arith}
 use Rattle.std.proofs.Math.Nat.{div-one}
 use Rattle.std.specs.Option.{IsSome}
-use Rattle.nl_types.specs.RootChanges.{HasData, places}
-use Rattle.nl_types.specs.Roots.{Empty, OfTree, Pages, Root, Tree, child, kind_of, place_at}
-use Rattle.nl_check.specs.Shapes.{HasShape}
+use Rattle.nl_types.specs.Blocks.RootChanges.{HasData, places}
+use Rattle.nl_types.specs.Blocks.Roots.{Empty, OfTree, Pages, Root, Tree, child, kind_of, place_at}
+use Rattle.nl_blocktree.specs.Facts.MetPlaces.{empty-place, pair}
+use Rattle.nl_blocktree.specs.Facts.MetRanges.{range-left, range-none, range-right, range-step, slots-whole, whole-step}
+use Rattle.nl_blocktree.specs.Facts.TreePlaces.{above-same, none-under}
+use Rattle.nl_blocktree.specs.FileShapes.{HasShape}
 use Rattle.nl_check.specs.Private.BesideTrees.{IsAnew, StandAt, StandsBeside}
-use Rattle.nl_check.proofs.MetPlaces.{empty-place, pair}
-use Rattle.nl_check.proofs.MetRanges.{range-left, range-none, range-right, range-step, slots-whole, whole-step}
 use Rattle.nl_check.proofs.SamePlaces.{same-under}
-use Rattle.nl_check.proofs.TreePlaces.{above-same, none-under}
 use Rattle.nl_blocktree.specs.Facts.TreeLevels.{tree_child}
 
 -- what a slot of a node names stands below it

@@ -1,12 +1,13 @@
 -- A file that is left or met beside another one.
 use Rattle.std.proofs.Common.{◌≡◌, ◌⊎◌, ℕ, zero, suc, ◌*◌, Bool, List, [], length, Option, Some, None, refl, ap, sym, subst, ◌∙◌, inl, inr, arith}
 use Rattle.std.specs.Option.{IsSome, option_and_then}
-use Rattle.nl_types.specs.RootChanges.{places}
-use Rattle.nl_types.specs.Roots.{Chain, Empty, NoBlocks, OfChain, OfTree, Pages, Root, Tree, height_of, kind_of, numbered, place_at}
-use Rattle.nl_check.specs.MetFiles.{IsWalked}
+use Rattle.nl_types.specs.Blocks.RootChanges.{places}
+use Rattle.nl_types.specs.Blocks.Roots.{Chain, Empty, NoBlocks, OfChain, OfTree, Pages, Root, Tree, height_of, kind_of, numbered, place_at}
+use Rattle.nl_blocktree.specs.Facts.MetPlaces.{empty-place, no-block, walked-empty}
+use Rattle.nl_blocktree.specs.Facts.TreePlaces.{tree-top, under-there, under-top}
+use Rattle.nl_blocktree.specs.FileShapes.{HasShape, IsSizeOf}
+use Rattle.nl_blocktree.specs.Walked.{IsWalked}
 use Rattle.nl_check.specs.Facts.Below.{some-by}
-use Rattle.nl_check.specs.Shapes.{HasShape}
-use Rattle.nl_check.specs.Trees.{IsSizeOf}
 use Rattle.nl_check.specs.Private.SoundInodes.{IsMeasured}
 use Rattle.nl_check.specs.Private.BesideTrees.{HasLeft, IsAnew, IsEndOfTree, IsMetAnew, StandAt, StandsAnew}
 use Rattle.nl_check.specs.Private.ChangedFiles.{AreMetAnew, IsFileMet, IsKeptIn, IsLostIn, IsNewIn, IsWholeFile, of_height}
@@ -15,9 +16,6 @@ use Rattle.nl_check.proofs.BesidePlaces.{kept-above}
 use Rattle.nl_check.proofs.HeightsBeside.{beside-case, stands-beside}
 use Rattle.nl_check.proofs.KeptPlaces.{kept-back, one-or-not}
 use Rattle.nl_check.proofs.LeftPlaces.{left-among, left-nowhere}
-use Rattle.nl_check.proofs.MetPlaces.{empty-place, no-block, walked-empty}
-use Rattle.nl_check.proofs.MetTrees.{under-there, under-top}
-use Rattle.nl_check.proofs.TreePlaces.{tree-top}
 
 -- ---- places of a tree, beside another file
 

@@ -1,11 +1,11 @@
 -- What a tree of a height is walked beside.
 use Rattle.std.proofs.Common.{◌≡◌, ◌⊎◌, ℕ, None, refl, ap, sym, ◌∙◌, inl, inr}
 use Rattle.std.proofs.lemmas.Bool.{cases_eq, eq-eqb, ne_eqb}
-use Rattle.nl_types.specs.Roots.{Chain, Empty, Pages, Root, Tree, numbered, place_at}
+use Rattle.nl_types.specs.Blocks.Roots.{Chain, Empty, Pages, Root, Tree, numbered, place_at}
 use Rattle.nl_check.specs.Private.BesideTrees.{StandsBeside}
 use Rattle.nl_check.specs.Private.ChangedFiles.{of_height}
-use Rattle.nl_check.proofs.MetPlaces.{empty-place}
-use Rattle.nl_check.proofs.TreePlaces.{tree-top}
+use Rattle.nl_blocktree.specs.Facts.MetPlaces.{empty-place}
+use Rattle.nl_blocktree.specs.Facts.TreePlaces.{tree-top}
 
 pub of-height : (height top : ℕ) → of_height height (Tree height top) ≡ Tree height top
 of-height height top = rw (eq-eqb height height refl) refl

@@ -8,7 +8,7 @@ use Rattle.std.proofs.lemmas.List.{get_or_past}
 use Rattle.std.proofs.lemmas.List.Elements.{All-cons, All-head, All-nil, All-tail}
 use Rattle.nl_types.specs.declared.kind.Kind.{Kind}
 use Rattle.nl_types.specs.Inodes.{Inodes}
-use Rattle.nl_types.specs.Roots.{Pages, Root, page_at, place_at}
+use Rattle.nl_types.specs.Blocks.Roots.{Pages, Root, page_at, place_at}
 use Rattle.nl_layout.specs.Root.{root_of, root_told}
 use Rattle.nl_layout.specs.declared.checkpoint_entry.CheckpointEntry.{CheckpointEntry}
 use Rattle.nl_layout.specs.declared.inode.Inode.{Inode}
@@ -25,12 +25,13 @@ use Rattle.nl_check.specs.Conditions.{AreExact, AreShaped, AreTrees, FirstFault,
 use Rattle.nl_check.specs.InodeTrees.{FormTree, used_below}
 use Rattle.nl_check.specs.ImageConditions.{number_of}
 use Rattle.nl_check.specs.declared.conditions.ImageCondition.TheVariants as condition
-use Rattle.nl_check.specs.Judging.{IsAlike, IsJudged, IsLast, IsTold, fault_told, told}
+use Rattle.nl_check.specs.Judging.{IsAlike, IsJudged, IsLast, TellsTree, fault_told, told}
 use Rattle.nl_check.specs.Private.Naming.{HasKindsOf, TellsKinds, awaited_count, kind_held}
 use Rattle.nl_check.specs.Periods.{AreOfPeriods}
-use Rattle.nl_check.specs.Shapes.{HasShape, Itself}
+use Rattle.nl_check.specs.Shapes.{Itself}
+use Rattle.nl_blocktree.specs.FileShapes.{HasShape, IsSizeOf}
 use Rattle.nl_check.specs.Private.SoundInodes.{TellsAll, kind_for, kind_in, kind_told}
-use Rattle.nl_check.specs.Trees.{IsSizeOf, IsTreeOf}
+use Rattle.nl_check.specs.Trees.{IsTreeOf}
 use Rattle.nl_check.specs.Private.Walks.{AreSoundAt, IsGood, IsMetWholeAt, IsWalk}
 use Rattle.nl_check.specs.declared.checks.Judged.{Judged}
 use Rattle.nl_check.specs.declared.shape.Walk.{Walk}
@@ -164,7 +165,7 @@ module _ (pages : Pages) (root : Root) (numbers : List Bool) (kinds : List (Opti
 
   -- the tree that is told, and formed
   pub tree-of : (entry : CheckpointEntry) (part : List (Option Kind)) → HasKindsOf walk.count kinds part
-      → (t : IsTold part walk entry)
+      → (t : TellsTree part walk entry)
       → FormTree (inodes_of_holding (holding-of t.sound)) → IsTreeOf pages root entry.size entry.inodes
   tree-of entry part of t forms = record {
     holding = holding-of t.sound;
@@ -187,7 +188,7 @@ module _ (pages : Pages) (root : Root) (numbers : List Bool) (kinds : List (Opti
 
   -- what is a tree is told
   pub tree-told : (entry : CheckpointEntry) (part : List (Option Kind)) → HasKindsOf walk.count kinds part
-      → IsTreeOf pages root entry.size entry.inodes → IsTold part walk entry
+      → IsTreeOf pages root entry.size entry.inodes → TellsTree part walk entry
   tree-told entry part of t = record {
     sound = sound-told entry.size entry.inodes t;
     size = one-size pages root entry.size (1024 * walk.count) (w.known.shaped.files Itself) t.sized w.sized;

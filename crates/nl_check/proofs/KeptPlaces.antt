@@ -1,8 +1,8 @@
 -- Which places are kept: that can be tested, and two files keep the same of one another.
 use Rattle.std.proofs.Common.{◌≡◌, ◌⊎◌, ℕ, Option, Some, None, refl, ap, sym, ◌∙◌, inl, inr}
 use Rattle.std.proofs.lemmas.Bool.{cases_eq}
-use Rattle.nl_types.specs.RootChanges.{places}
-use Rattle.nl_types.specs.Roots.{Chain, Empty, NoBlocks, OfChain, OfTree, Pages, Root, Tree}
+use Rattle.nl_types.specs.Blocks.RootChanges.{places}
+use Rattle.nl_types.specs.Blocks.Roots.{Chain, Empty, NoBlocks, OfChain, OfTree, Pages, Root, Tree}
 use Rattle.nl_check.specs.Private.ChangedFiles.{AreBeside, IsKeptIn}
 
 -- two numbers that there may be are one, or not

@@ -4,12 +4,13 @@ use Rattle.std.specs.Prelude.{◌&&◌}
 use Rattle.std.specs.Option.{option_and_then}
 use Rattle.std.proofs.lemmas.Bool.{cases_lt}
 use Rattle.nl_types.specs.declared.kind.Kind.{Kind}
-use Rattle.nl_types.specs.Roots.{Empty, Pages, Root, page_at, place_at}
+use Rattle.nl_types.specs.Blocks.Roots.{Empty, Pages, Root, page_at, place_at}
 use Rattle.nl_layout.specs.Root.{root_of}
 use Rattle.nl_layout.specs.declared.inode.Inode.{Inode}
 use Rattle.nl_files.specs.CheckpointRoots.{inode_root}
 use Rattle.nl_ifile.specs.Inodes.{IsInodeFile, block_for, in_block, inode_at, inode_in}
-use Rattle.nl_check.specs.MetFiles.{CanBeMet, IsWalked, is_met}
+use Rattle.nl_blocktree.specs.Facts.MetPlaces.{walked-empty}
+use Rattle.nl_blocktree.specs.Walked.{CanBeMet, is_met, IsWalked}
 use Rattle.nl_check.specs.Shapes.{IsShaped}
 use Rattle.nl_check.specs.Private.ChangedFiles.{IsOfInodes}
 use Rattle.nl_check.specs.Private.SoundInodes.{IsMeasured, IsSoundInode, TellsInodes, kind_for, kind_in}
@@ -17,7 +18,6 @@ use Rattle.nl_check.specs.Private.Walks.{AreKnown, IsBlockOf, IsWalk}
 use Rattle.nl_check.specs.declared.shape.Walk.{Walk}
 use Rattle.nl_check.specs.Facts.Below.{some-by}
 use Rattle.nl_check.proofs.InodeBlocks.{block_for-cong, block_for-none}
-use Rattle.nl_check.proofs.MetPlaces.{walked-empty}
 use Rattle.nl_check.proofs.ToldInodes.{told-all, told-hole, told-more, told-none}
 use Rattle.nl_check.proofs.WalkedFiles.{inode-there, next-can, none-in, walked-first, walked-hole, walked-met, walked-more, walked-shaped, walked-whole}
 

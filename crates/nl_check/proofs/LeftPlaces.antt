@@ -1,7 +1,7 @@
 -- Numbers that are met no more, at one place after another.
 use Rattle.std.proofs.Common.{◌≡◌, ◌⊎◌, ℕ, Bool, true, false, List, refl, ap, sym, subst, ◌∙◌, inl, inr}
 use Rattle.std.proofs.lemmas.Bool.{cases_eq}
-use Rattle.nl_check.specs.MetFiles.{is_met}
+use Rattle.nl_blocktree.specs.Walked.{is_met}
 use Rattle.nl_check.specs.Shapes.{At, Owner}
 use Rattle.nl_check.specs.Private.BesideTrees.{HasLeft, Leaves}
 

@@ -1,11 +1,11 @@
 -- A tree is left beside another file, one node's slots after another.
 use Rattle.std.proofs.Common.{◌≡◌, ℕ, suc, ◌+◌, ◌*◌, ◌<◌, ◌≤◌, Bool, List, Option, Some, None, refl, ap, sym, subst, ◌∙◌, inl, inr, arith}
-use Rattle.nl_types.specs.RootChanges.{places}
-use Rattle.nl_types.specs.Roots.{Pages, Root, Tree, child, place_at}
+use Rattle.nl_types.specs.Blocks.RootChanges.{places}
+use Rattle.nl_types.specs.Blocks.Roots.{Pages, Root, Tree, child, place_at}
 use Rattle.nl_check.specs.Private.BesideTrees.{HasLeft, IsAnew, Leaves, StandAt, StandsAnew}
 use Rattle.nl_check.proofs.BesidePlaces.{anew-bottom, anew-here, anew-left, anew-right, anew-slots, anew-step, anew-whole, none-anew, nowhere-anew, number-here, tree-slot}
 use Rattle.nl_check.proofs.LeftPlaces.{left-joined, left-nowhere, left-one}
-use Rattle.nl_check.proofs.MetRanges.{one-under}
+use Rattle.nl_blocktree.specs.Facts.MetRanges.{one-under}
 
 -- what was left of the blocks under places of a level
 abbrev pub LeftUnder : Pages → (height top : ℕ) → Root → (level first bound : ℕ) → List Bool → List Bool

@@ -1,7 +1,3 @@
-pub mod MetPlaces
-pub mod TreePlaces
-pub mod MetRanges
-pub mod MetTrees
 pub mod MetNumbers
 pub mod PeriodsBetween
 pub mod InodeSpelling
@@ -35,4 +31,3 @@ pub mod NamesStay
 pub mod StepPlaces
 pub mod StepsBeside
 pub mod TreesBeside
-pub mod SoundRoots

@@ -2,16 +2,15 @@
 use Rattle.std.proofs.Common.{◌≡◌, ◌⊎◌, ℕ, suc, ◌+◌, ◌*◌, ◌≤◌, List, [], ◌∷◌, Option, refl, ap, sym, subst, ◌∙◌, inl, inr, arith}
 use Rattle.std.specs.List.{Contains}
 use Rattle.std.proofs.lemmas.List.Elements.{Contains-append_left, Contains-push, Contains-push_cases}
-use Rattle.nl_types.specs.Roots.{Pages, Root, Tree, page_at, place_at}
+use Rattle.nl_types.specs.Blocks.Roots.{Pages, Root, Tree, page_at, place_at}
 use Rattle.nl_ifile.specs.Inodes.{inode_at}
 use Rattle.nl_check.specs.Facts.Below.{below-more}
 use Rattle.nl_check.specs.Private.ChangedFiles.{AreAllListed, IsBlockListed, IsChangedFile, IsOfInodes, IsSameOrListed, ListsAll, ListsBlock, ListsFile, ListsInode, ListsMore, ListsPlaces, ListsUnder}
 use Rattle.nl_check.specs.declared.differing.ChangedFile.{ChangedFile}
 use Rattle.nl_check.proofs.KnownInodes.{block-of}
-use Rattle.nl_check.proofs.MetRanges.{range-none, range-step, whole-step}
-use Rattle.nl_check.proofs.MetTrees.{under-top}
+use Rattle.nl_blocktree.specs.Facts.MetRanges.{range-none, range-step, whole-step}
+use Rattle.nl_blocktree.specs.Facts.TreePlaces.{above-same, under-top}
 use Rattle.nl_check.proofs.SamePlaces.{same-under}
-use Rattle.nl_check.proofs.TreePlaces.{above-same}
 
 module _ (pages : Pages) (old new : Root) where
   -- ---- lists that grow

@@ -1,15 +1,15 @@
 -- A tree is met beside another file, one node's slots after another.
 use Rattle.std.proofs.Common.{◌≡◌, ℕ, suc, ◌+◌, ◌*◌, ◌-◌, ◌/◌, ◌^◌, ◌<◌, ◌≤◌, Bool, List, Option, Some, None, refl, ap, sym, subst, ◌∙◌, inl, inr, arith}
 use Rattle.std.specs.Option.{IsSome}
-use Rattle.nl_types.specs.RootChanges.{places}
-use Rattle.nl_types.specs.Roots.{Pages, Root, Tree, child, place_at}
-use Rattle.nl_check.specs.MetFiles.{Meets}
-use Rattle.nl_check.specs.Shapes.{HasShape}
+use Rattle.nl_types.specs.Blocks.RootChanges.{places}
+use Rattle.nl_types.specs.Blocks.Roots.{Pages, Root, Tree, child, place_at}
+use Rattle.nl_blocktree.specs.Facts.MetRanges.{joined, met-nowhere, met-one, one-under, range-left, range-right, slots-whole}
+use Rattle.nl_blocktree.specs.Facts.TreePlaces.{above-next}
+use Rattle.nl_blocktree.specs.FileShapes.{HasShape}
+use Rattle.nl_blocktree.specs.TreePlaces.{IsUnder}
+use Rattle.nl_blocktree.specs.Walked.{Meets}
 use Rattle.nl_check.specs.Private.BesideTrees.{HasDataUnder, IsAnew, IsMetAnew, StandAt}
-use Rattle.nl_check.specs.Private.TreePlaces.{IsUnder}
 use Rattle.nl_check.proofs.BesidePlaces.{anew-bottom, anew-here, anew-left, anew-right, anew-slots, anew-step, anew-whole, kept-above, none-anew, nowhere-anew, tree-slot}
-use Rattle.nl_check.proofs.MetRanges.{joined, met-nowhere, met-one, one-under, range-left, range-right, slots-whole}
-use Rattle.nl_check.proofs.TreePlaces.{above-next}
 
 module _ (pages : Pages) (height top : ℕ) (other : Root) where
   abbrev root : Root

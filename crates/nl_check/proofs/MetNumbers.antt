@@ -2,7 +2,7 @@
 use Rattle.std.proofs.Common.{◌≡◌, ℕ, Bool, true, false, Option, Some, None, refl, ap, sym, ◌∙◌}
 use Rattle.nl_types.specs.declared.period.Period.{Period}
 use Rattle.nl_check.specs.Conditions.{has}
-use Rattle.nl_check.specs.MetFiles.{is_met}
+use Rattle.nl_blocktree.specs.Walked.{is_met}
 use Rattle.nl_check.specs.Periods.{TellPeriods, has_in}
 
 in-period : (c : ℕ) (o : Option Period) → has_in c o ≡ true → (p : Period) × (o ≡ Some p) × (has c p ≡ true)

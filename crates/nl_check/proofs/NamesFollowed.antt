@@ -8,8 +8,8 @@ use Rattle.std.proofs.Math.ListN.{length-set, set}
 use Rattle.nl_types.specs.declared.kind.Kind.{Kind}
 use Rattle.nl_types.specs.declared.kind.Kind.TheVariants as kind
 use Rattle.nl_types.specs.Inodes.{Records, node_of, reached}
-use Rattle.nl_types.specs.Trees.{node_kind}
-use Rattle.nl_types.specs.Paths.{Path}
+use Rattle.nl_types.specs.Plain.Trees.{node_kind}
+use Rattle.nl_types.specs.Plain.Paths.{Path}
 use Rattle.nl_dirs.specs.declared.record.Record.{Record}
 use Rattle.nl_dirs.specs.Records.{entry_of}
 use Rattle.nl_tree.specs.Held.{Held, Holding, IsHolding, Listed, Stored, inode_content, inodes_of_holding}

@@ -1,8 +1,8 @@
 -- The names of a checkpoint are those of the one before it, where the inodes that changed are files.
 use Rattle.std.proofs.Common.{◌≡◌, ◌⊎◌, ℕ, List, Option, Some, None, ap, sym, subst, ◌∙◌, inl, inr}
 use Rattle.std.specs.Option.{option_map}
-use Rattle.nl_types.specs.Paths.{Name}
-use Rattle.nl_types.specs.Roots.{Pages, Root, page_at}
+use Rattle.nl_types.specs.Plain.Paths.{Name}
+use Rattle.nl_types.specs.Blocks.Roots.{Pages, Root, page_at}
 use Rattle.nl_types.specs.Inodes.{Link, InodeContent, Bytes, Records}
 use Rattle.nl_layout.specs.Root.{root_of}
 use Rattle.nl_layout.specs.declared.inode.Inode.{Inode}

@@ -7,12 +7,12 @@ use Rattle.std.specs.List.Sorted.{IsPartitionPoint}
 use Rattle.std.proofs.lemmas.List.Elements.{All-contains, Contains-append_left, Contains-append_right}
 use Rattle.std.proofs.lemmas.Bool.{cases_lt, le-leb, le-ltb, leb-true, leb-false, lt-leb, lt-ltb}
 use Rattle.nl_types.specs.declared.period.Period.{Period}
-use Rattle.nl_types.specs.Entries.{is_before_end}
+use Rattle.nl_types.specs.Blocks.Entries.{is_before_end}
 use Rattle.nl_vstore.specs.Periods.{Periods}
 use Rattle.nl_check.specs.Conditions.{has}
 use Rattle.nl_check.specs.Periods.{AreOfPeriods, has_in}
 use Rattle.nl_check.specs.Private.Turns.{AreTurnedOfPeriods, AreTurns, HasTurnsBelow, IsOfPeriod, IsTurnOfPeriod, StaysBetween, WereOfPeriods, checkpoint_of, turn_at, turns_of}
-use Rattle.nl_check.specs.MetFiles.{is_met}
+use Rattle.nl_blocktree.specs.Walked.{is_met}
 use Rattle.nl_check.specs.declared.turns.Turn.{Turn}
 
 -- ---- one period

@@ -2,9 +2,9 @@
 use Rattle.std.proofs.Common.{◌≡◌, ℕ, zero, suc, ◌+◌, ◌-◌, ◌/◌, ◌%◌, ◌^◌, ◌≤◌, ap, sym, subst, ◌∙◌, arith}
 use Rattle.std.proofs.Math.Nat.{div-one}
 use Rattle.std.specs.Option.{option_and_then}
-use Rattle.nl_types.specs.Roots.{Pages, Root, Tree, child, place_at}
+use Rattle.nl_types.specs.Blocks.Roots.{Pages, Root, Tree, child, place_at}
 use Rattle.nl_ifile.specs.Inodes.{inode_at, inode_in}
-use Rattle.nl_check.proofs.TreePlaces.{div-pow-in}
+use Rattle.nl_blocktree.specs.Facts.TreePlaces.{div-pow-in}
 use Rattle.nl_blocktree.specs.Facts.TreeLevels.{tree_child}
 
 -- ---- trees, be they of one height or not

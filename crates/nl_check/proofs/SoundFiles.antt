@@ -1,7 +1,7 @@
 -- What is judged of files.
 use Rattle.std.proofs.Common.{◌≡◌, ℕ, ◌+◌, ◌*◌, ◌/◌, ◌%◌, ◌<◌, ◌≤◌, List, slice_index, Option, Some, None, ap, sym, ◌∙◌, inl, inr, arith}
 use Rattle.std.proofs.lemmas.Bool.{cases_lt}
-use Rattle.nl_types.specs.Roots.{Blocks, Pages, Root, page_at}
+use Rattle.nl_types.specs.Blocks.Roots.{Blocks, Pages, Root, page_at}
 use Rattle.nl_tree.specs.Contents.{byte_in}
 use Rattle.nl_tree.specs.Held.{byte_stored}
 use Rattle.nl_check.specs.Private.SoundFiles.{IsSoundFile}

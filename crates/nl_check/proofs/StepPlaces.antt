@@ -2,7 +2,7 @@
 use Rattle.std.proofs.Common.{◌≡◌, ◌⊎◌, ℕ, ◌+◌, ◌*◌, ◌/◌, ◌%◌, ◌<◌, Bool, List, length, Some, refl, ap, sym, subst, ◌∙◌, inl, inr, arith}
 use Rattle.std.specs.List.{Contains, slice_get}
 use Rattle.std.proofs.lemmas.Option.{get_or_from_slice_get, slice_get_read}
-use Rattle.nl_types.specs.Roots.{Pages, Root, place_at}
+use Rattle.nl_types.specs.Blocks.Roots.{Pages, Root, place_at}
 use Rattle.nl_files.specs.CheckpointRoots.{inode_root}
 use Rattle.nl_check.specs.Shapes.{At, Itself, Of, Owner, root_for}
 use Rattle.nl_check.specs.Private.BesideTrees.{HasLeft}

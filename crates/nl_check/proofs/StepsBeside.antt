@@ -1,10 +1,10 @@
 -- What was known of a checkpoint is known of the next one, once its numbers are left and met.
 use Rattle.std.proofs.Common.{◌≡◌, ◌⊎◌, ℕ, ◌+◌, ◌*◌, ◌/◌, Bool, true, false, List, Some, ap, sym, subst, ◌∙◌, inl, inr, arith}
 use Rattle.std.specs.Option.{option_and_then}
-use Rattle.nl_types.specs.Roots.{Pages, Root, page_at, place_at}
+use Rattle.nl_types.specs.Blocks.Roots.{Pages, Root, page_at, place_at}
 use Rattle.nl_files.specs.CheckpointRoots.{inode_root}
 use Rattle.nl_ifile.specs.Inodes.{IsInodeFile, block_for, in_block, inode_at}
-use Rattle.nl_check.specs.MetFiles.{is_met}
+use Rattle.nl_blocktree.specs.Walked.{is_met}
 use Rattle.nl_check.specs.Periods.{AreMetIn}
 use Rattle.nl_check.specs.Shapes.{At, Itself, Of, Owner, met, root_for}
 use Rattle.nl_check.specs.Facts.Below.{both}

@@ -4,7 +4,7 @@ use Rattle.std.specs.Prelude.{◌&&◌}
 use Rattle.std.specs.Option.{option_and_then}
 use Rattle.std.proofs.lemmas.Bool.{cases_lt}
 use Rattle.nl_types.specs.declared.kind.Kind.{Kind}
-use Rattle.nl_types.specs.Roots.{Pages, Root, page_at}
+use Rattle.nl_types.specs.Blocks.Roots.{Pages, Root, page_at}
 use Rattle.nl_layout.specs.declared.inode.Inode.{Inode}
 use Rattle.nl_ifile.specs.Inodes.{inode_at, inode_in}
 use Rattle.nl_check.specs.Private.SoundInodes.{IsSoundInode, TellsAll, TellsInodes, kind_for, kind_in, kind_told}

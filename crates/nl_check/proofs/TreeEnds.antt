@@ -2,12 +2,12 @@
 use Rattle.std.proofs.Common.{◌≡◌, ℕ, suc, ◌+◌, ◌*◌, ◌-◌, ◌/◌, ◌^◌, ◌<◌, ◌≤◌, List, Option, Some, None, refl, ap, sym, subst, ◌∙◌, inl, inr, arith}
 use Rattle.std.specs.Option.{IsSome, option_and_then}
 use Rattle.std.proofs.lemmas.Bool.{cases_eq, cases_lt}
-use Rattle.nl_types.specs.Roots.{Pages, Tree, child, place_at, slot}
+use Rattle.nl_types.specs.Blocks.Roots.{Pages, Tree, child, place_at, slot}
 use Rattle.nl_check.specs.Private.BesideTrees.{IsLastSlot}
-use Rattle.nl_check.specs.Private.TreePlaces.{IsEnd, IsUnder}
+use Rattle.nl_blocktree.specs.Facts.MetRanges.{range-right, slots-whole, whole-step}
+use Rattle.nl_blocktree.specs.Facts.TreePlaces.{above-rises, above-same, beyond-lower, none-under}
+use Rattle.nl_blocktree.specs.TreePlaces.{IsEnd, IsUnder}
 use Rattle.nl_check.proofs.BesidePlaces.{tree-slot}
-use Rattle.nl_check.proofs.MetRanges.{range-right, slots-whole, whole-step}
-use Rattle.nl_check.proofs.TreePlaces.{above-rises, above-same, beyond-lower, none-under}
 
 module _ (pages : Pages) (height top : ℕ) where
   -- a block of data

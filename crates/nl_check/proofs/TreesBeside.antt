@@ -4,7 +4,7 @@ use Rattle.std.specs.List.{Contains}
 use Rattle.std.specs.Option.{is_some, option_map}
 use Rattle.nl_types.specs.declared.kind.Kind.{Kind}
 use Rattle.nl_types.specs.Inodes.{InodeContent, Bytes, Records, Inodes}
-use Rattle.nl_types.specs.Roots.{Pages, Root}
+use Rattle.nl_types.specs.Blocks.Roots.{Pages, Root}
 use Rattle.nl_layout.specs.Root.{root_of, root_told}
 use Rattle.nl_layout.specs.declared.checkpoint_entry.CheckpointEntry.{CheckpointEntry}
 use Rattle.nl_layout.specs.declared.inode.Inode.{Inode}
@@ -16,7 +16,8 @@ use Rattle.nl_check.specs.Conditions.{IsSoundTree}
 use Rattle.nl_check.specs.InodeTrees.{used_below}
 use Rattle.nl_check.specs.Judging.{told}
 use Rattle.nl_check.specs.Shapes.{At}
-use Rattle.nl_check.specs.Trees.{IsSizeOf, IsTreeOf}
+use Rattle.nl_blocktree.specs.FileShapes.{IsSizeOf}
+use Rattle.nl_check.specs.Trees.{IsTreeOf}
 use Rattle.nl_check.specs.Private.AlikeNames.{AreAlike, AreFiles, NamesAlike}
 use Rattle.nl_check.specs.Private.BesideTrees.{HasLeft}
 use Rattle.nl_check.specs.Private.SoundInodes.{IsSoundInode, TellsAll, kind_in, kind_told}

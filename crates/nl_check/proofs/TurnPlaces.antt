@@ -2,7 +2,7 @@
 use Rattle.std.proofs.Common.{◌≡◌, ◌⊎◌, ℕ, ◌+◌, Bool, List, Some, ap, sym, subst, ◌∙◌, inl, inr, arith}
 use Rattle.std.specs.List.{slice_get}
 use Rattle.std.proofs.lemmas.Bool.{cases_lt}
-use Rattle.nl_types.specs.Roots.{Pages, Root}
+use Rattle.nl_types.specs.Blocks.Roots.{Pages, Root}
 use Rattle.nl_files.specs.CheckpointRoots.{inode_root}
 use Rattle.nl_check.specs.Shapes.{At, Of}
 use Rattle.nl_check.specs.Private.BesideTrees.{HasLeft}

@@ -2,15 +2,16 @@
 use Rattle.std.proofs.Common.{◌≡◌, ◌⊎◌, ℕ, zero, suc, ◌+◌, ◌*◌, ◌/◌, ◌%◌, ◌<◌, ◌≤◌, Bool, true, false, List, Some, None, refl, ap, sym, subst, ◌∙◌, inl, inr, arith}
 use Rattle.std.specs.Option.{option_and_then}
 use Rattle.std.proofs.lemmas.Bool.{cases_lt}
-use Rattle.nl_types.specs.RootChanges.{places}
-use Rattle.nl_types.specs.Roots.{Empty, Pages, Root, page_at, place_at}
+use Rattle.nl_types.specs.Blocks.RootChanges.{places}
+use Rattle.nl_types.specs.Blocks.Roots.{Empty, Pages, Root, page_at, place_at}
 use Rattle.nl_files.specs.CheckpointRoots.{inode_root}
 use Rattle.nl_ifile.specs.Inodes.{IsInodeFile, inode_at, inode_in}
-use Rattle.nl_check.specs.MetFiles.{CanBeMet, IsWalked, is_met}
+use Rattle.nl_blocktree.specs.Facts.MetPlaces.{walked-empty}
+use Rattle.nl_blocktree.specs.FileShapes.{HasShape}
+use Rattle.nl_blocktree.specs.Walked.{CanBeMet, is_met, IsWalked}
 use Rattle.nl_check.specs.Periods.{AreMetIn}
-use Rattle.nl_check.specs.Shapes.{At, HasShape, IsShaped, Itself, Of, Owner, met, root_for}
+use Rattle.nl_check.specs.Shapes.{At, IsShaped, Itself, Of, Owner, met, root_for}
 use Rattle.nl_check.specs.Private.Walks.{AreWalked, AreWhole, IsBelow}
-use Rattle.nl_check.proofs.MetPlaces.{walked-empty}
 
 same-at : (p q : At) → p.owner ≡ q.owner → p.level ≡ q.level → p.offset ≡ q.offset → p ≡ q
 same-at p q a b c = λ i. record { owner = a i; level = b i; offset = c i }

@@ -2,8 +2,8 @@
 use Rattle.std.specs.Prelude.{◌≡◌, ℕ, ◌&&◌, nat_le, Bool, true, List, Option, None, Some}
 use Rattle.std.specs.List.{All}
 use Rattle.nl_types.specs.declared.period.Period.{Period}
-use Rattle.nl_types.specs.Entries.{is_before_end}
-use Rattle.nl_types.specs.Roots.{Pages, Root}
+use Rattle.nl_types.specs.Blocks.Entries.{is_before_end}
+use Rattle.nl_types.specs.Blocks.Roots.{Pages, Root}
 use Rattle.nl_vstore.specs.Periods.{Periods}
 use Rattle.nl_check.specs.ImageConditions.{number_of}
 use Rattle.nl_check.specs.declared.conditions.ImageCondition.TheVariants as condition

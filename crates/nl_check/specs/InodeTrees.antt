@@ -2,9 +2,9 @@
 use Rattle.std.specs.Prelude.{◌≡◌, ◌≢◌, ℕ, zero, suc, ◌+◌, ◌<◌, cond, Option, Some}
 use Rattle.std.specs.Option.{is_some}
 use Rattle.nl_types.specs.declared.kind.Kind.{Kind}
-use Rattle.nl_types.specs.Limits.{root_inode}
-use Rattle.nl_types.specs.Paths.{Name, Path}
-use Rattle.nl_types.specs.Trees.{Tree, node_kind}
+use Rattle.nl_types.specs.Plain.Limits.{root_inode}
+use Rattle.nl_types.specs.Plain.Paths.{Name, Path}
+use Rattle.nl_types.specs.Plain.Trees.{Tree, node_kind}
 use Rattle.nl_types.specs.Inodes.{Link, InodeContent, Records, Inodes, MeansTree, node_of, reached}
 use Rattle.nl_types.specs.InodeLaws.{MeansPaths}
 

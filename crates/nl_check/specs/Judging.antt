@@ -2,7 +2,7 @@
 use Rattle.std.specs.Prelude.{◌≡◌, ℕ, ◌*◌, ◌<◌, Bool, true, false, cond, List, length, Option, None, Some, IfSome}
 use Rattle.std.specs.Option.{IsSome, is_some, option_map}
 use Rattle.nl_types.specs.declared.kind.Kind.{Kind}
-use Rattle.nl_types.specs.Roots.{Pages}
+use Rattle.nl_types.specs.Blocks.Roots.{Pages}
 use Rattle.nl_layout.specs.Root.{root_of, root_told}
 use Rattle.nl_layout.specs.declared.checkpoint_entry.CheckpointEntry.{CheckpointEntry}
 use Rattle.nl_vstore.specs.Periods.{Periods}
@@ -27,7 +27,7 @@ told c =
     }
 
 -- all inodes are sound, and the entry tells the size of the file of inodes and how many inodes are in use
-pub record IsTold (kinds : List (Option Kind)) (walk : Walk) (entry : CheckpointEntry) : Type 0 where
+pub record TellsTree (kinds : List (Option Kind)) (walk : Walk) (entry : CheckpointEntry) : Type 0 where
   pub sound : walk.sound ≡ true
   pub size : entry.size ≡ 1024 * walk.count
   pub inodes : entry.inodes ≡ awaited_count kinds

@@ -1,10 +1,10 @@
 -- What the conditions mean.
 use Rattle.std.specs.Prelude.{ℕ}
-use Rattle.nl_types.specs.Entries.{Content}
+use Rattle.nl_types.specs.Blocks.Entries.{Content}
 use Rattle.nl_types.specs.InodeLaws.{MeansPaths}
-use Rattle.nl_types.specs.Lifetimes.{IsExact}
-use Rattle.nl_types.specs.Roots.{Pages, Root, pages_of}
-use Rattle.nl_types.specs.Trees.{Tree}
+use Rattle.nl_types.specs.Blocks.Lifetimes.{IsExact}
+use Rattle.nl_types.specs.Blocks.Roots.{Pages, Root, pages_of}
+use Rattle.nl_types.specs.Plain.Trees.{Tree}
 use Rattle.nl_vstore.specs.Periods.{periods_of}
 use Rattle.nl_blocktree.specs.Checkpoints.{numbers_of}
 use Rattle.nl_files.specs.CheckpointTrees.{HoldsTree}
@@ -12,7 +12,8 @@ use Rattle.nl_tree.specs.Held.{Holding, inodes_of_holding}
 use Rattle.nl_files.specs.CheckpointRoots.{IsTreeSound, roots_at}
 use Rattle.nl_check.specs.Conditions.{MeetsItsNumbers}
 use Rattle.nl_check.specs.Shapes.{IsShaped}
-use Rattle.nl_check.specs.Trees.{IsSizeOf, IsTreeOf}
+use Rattle.nl_blocktree.specs.FileShapes.{IsSizeOf}
+use Rattle.nl_check.specs.Trees.{IsTreeOf}
 
 -- the checkpoint stands for a tree with as many paths as there are inodes in use
 pub record StandsForTree (pages : Pages) (root : Root) (inodes : ℕ) : Type 0 where

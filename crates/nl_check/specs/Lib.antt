@@ -3,7 +3,6 @@ pub mod InodeTrees
 pub mod Shapes
 pub mod Trees
 pub mod Conditions
-pub mod MetFiles
 pub mod Laws
 pub mod Periods
 pub mod Judging

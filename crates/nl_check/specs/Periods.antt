@@ -1,10 +1,10 @@
 -- Numbers that were met, beside the periods of all numbers.
 use Rattle.std.specs.Prelude.{◌≡◌, ℕ, Bool, true, false, List, Option, None, Some}
 use Rattle.nl_types.specs.declared.period.Period.{Period}
-use Rattle.nl_types.specs.Roots.{Pages, Root}
+use Rattle.nl_types.specs.Blocks.Roots.{Pages, Root}
 use Rattle.nl_vstore.specs.Periods.{Periods}
 use Rattle.nl_check.specs.Conditions.{MeetsItsNumbers, has}
-use Rattle.nl_check.specs.MetFiles.{is_met}
+use Rattle.nl_blocktree.specs.Walked.{is_met}
 use Rattle.nl_check.specs.Shapes.{At, met}
 
 -- whether a number in use has the checkpoint in its period

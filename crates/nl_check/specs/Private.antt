@@ -7,6 +7,5 @@ pub mod InodeBlocks
 pub mod Naming
 pub mod SoundFiles
 pub mod SoundInodes
-pub mod TreePlaces
 pub mod Turns
 pub mod Walks

@@ -1,7 +1,7 @@
--- Which roots, nodes and blocks of inodes a checkpoint may have.
-use Rattle.std.specs.Prelude.{◌≡◌, ◌≢◌, ℕ, ◌/◌, ◌≤◌, IsSome, Option, Some}
-use Rattle.nl_types.specs.Roots.{NoBlocks, OfChain, OfTree, Pages, Root, height_of, kind_of, place_at}
-use Rattle.nl_types.specs.RootChanges.{HasData, HasTreeShape, places}
+-- Which files and blocks of inodes a checkpoint may have.
+use Rattle.std.specs.Prelude.{◌≡◌, ℕ, Option, Some}
+use Rattle.nl_types.specs.Blocks.Roots.{Pages, Root, place_at}
+use Rattle.nl_blocktree.specs.FileShapes.{HasShape}
 use Rattle.nl_files.specs.CheckpointRoots.{inode_root}
 use Rattle.nl_ifile.specs.Inodes.{IsInodeFile, inode_at}
 
@@ -24,20 +24,6 @@ pub record At : Type 0 where
 -- the number that is met there
 abbrev pub met : Pages → Root → At → Option ℕ
 met pages root at = place_at pages (root_for pages root at.owner) at.level at.offset
-
--- Each number has a page. A root that isn't empty has its first or topmost node. No node of a chain is past
--- its last block; a tree has its shape.
-pub record HasShape (pages : Pages) (root : Root) : Type 0 where
-  pub stored : (level offset v : ℕ) → place_at pages root level offset ≡ Some v → IsSome (pages v)
-  pub has_top : kind_of root ≢ NoBlocks → IsSome (place_at pages root (height_of root) 0)
-  pub ends_full : kind_of root ≡ OfChain → (p v : ℕ) → place_at pages root 1 p ≡ Some v
-      → (i : ℕ) × (p ≤ i / 127) × HasData pages root i
-  pub tree_shape : kind_of root ≡ OfTree → HasTreeShape pages root
-
--- the file has its shape, and no number stands at two places of it
-pub record StandsAlone (pages : Pages) (root : Root) : Type 0 where
-  pub shape : HasShape pages root
-  pub once : (a b : ℕ × ℕ) (v : ℕ) → places pages root a ≡ Some v → places pages root b ≡ Some v → a ≡ b
 
 -- All files have their shape, each block of the file of inodes is one of inodes and has one in use, and no
 -- number is met at two places.

@@ -2,24 +2,24 @@
 ghost use Rattle.std.specs.Prelude.{◌≡◌, ◌≢◌, ◌<◌, ◌≤◌, ◌-◌, ◌^◌, ℕ, suc, IsTrue, IfOk, IfErr, false, option_copied};
 ghost use Rattle.std.specs.Option.{option_and_then};
 ghost use Rattle.nl_types.specs.declared.error.VolError;
-ghost use Rattle.nl_types.specs.Roots.{OfChain, Pages, Root as AnyRoot, Tree as AnyTree, kind_of, page_at, place_at};
+ghost use Rattle.nl_types.specs.Blocks.Roots.{OfChain, Pages, Root as AnyRoot, Tree as AnyTree, kind_of, page_at, place_at};
 ghost use Rattle.nl_layout.specs.Root.{root_of};
 ghost use Rattle.nl_files.specs.CheckpointRoots.{inode_root};
 ghost use Rattle.nl_ifile.specs.Inodes.{inode_in};
-ghost use Rattle.nl_check.specs.Private.ChangedFiles.{AreAllListed, CanBeWalked, IsOfInodes, ListsAll, ListsBlock, ListsFile, ListsUnder};
+ghost use Rattle.nl_check.specs.Private.ChangedFiles.{AreAllListed, IsOfInodes, ListsAll, ListsBlock, ListsFile, ListsUnder};
 
-use crate::inodes::INODE_LIMIT;
 use crate::shape::{INODES_PER_BLOCK, inode_at_place, is_inode_block};
 use crate::subtrees::{are_one, named, page_under, slot_of, top_beside};
 use nl_layout::{Inode, Level, Root, SLOTS};
-use nl_types::{Page, VirtualNumber, VolError};
+use nl_types::limits::INODE_LIMIT;
+use nl_types::{InodeNumber, Page, VirtualNumber, VolError};
 use nl_vstore::VRead;
 
 /// A file or a directory whose inode isn't what it was.
 #[derive(Clone, Copy)]
 pub(crate) struct ChangedFile {
     /// The number of its inode.
-    pub(crate) number: u64,
+    pub(crate) number: InodeNumber,
     /// Its inode before. None where it came.
     pub(crate) earlier: Option<Inode>,
     /// Its inode now. None where it went.
@@ -115,8 +115,9 @@ fn list_block(
         return Ok(false);
     }
     for place in 0..INODES_PER_BLOCK {
+        let number = InodeNumber::new(INODES_PER_BLOCK as u64 * index + place as u64);
         let file = ChangedFile {
-            number: INODES_PER_BLOCK as u64 * index + place as u64,
+            number,
             earlier: inode_under(before, place),
             later: inode_under(now, place),
         };

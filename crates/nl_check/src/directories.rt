@@ -1,7 +1,7 @@
 //! What is judged of a directory by its inode and its blocks.
-ghost use Rattle.std.specs.Prelude.{◌≡◌, ◌↔◌, ◌<◌, ◌≤◌, ◌*◌, ◌==◌, ◌&&◌, not, [], ◌∷◌, ℕ, List, length, IsTrue, IfOk, IfErr, Ok, None, Some, IfSome, MatchOption, All};
+ghost use Rattle.std.specs.Prelude.{◌≡◌, ◌↔◌, ◌<◌, ◌≤◌, ◌*◌, ◌&&◌, List, IsTrue, IfOk, IfErr, Ok, None, Some, IfSome, MatchOption};
 ghost use Rattle.nl_types.specs.declared.error.VolError;
-ghost use Rattle.nl_types.specs.Roots.{page_at};
+ghost use Rattle.nl_types.specs.Blocks.Roots.{page_at};
 ghost use Rattle.nl_layout.specs.Root.{root_of};
 ghost use Rattle.nl_dirs.specs.declared.record.Record.{Record};
 ghost use Rattle.nl_dirs.specs.Listings.{HoldsRecords};
@@ -14,12 +14,10 @@ use crate::inodes::is_inode_number;
 use nl_blocktree::Cursor;
 use nl_dirs::{Record, records};
 use nl_layout::{Inode, Root};
+use nl_types::limits::PATH_LIMIT;
 use nl_types::{BLOCK_SIZE, Page, VolError, is_name};
 use nl_vstore::VRead;
 use std::alloc::Global;
-
-/// The most paths beside the root: a directory has no more names than these.
-const PATH_LIMIT: usize = 524_277;
 
 /// The bytes of a record in front of its name.
 const HEAD_SIZE: usize = 6;
@@ -28,7 +26,7 @@ const HEAD_SIZE: usize = 6;
 fn is_sound_record(record: &Record) -> bool
     ensures { IsTrue result ↔ IsSoundRecord «record».now }
 {
-    is_name(record.name.as_slice()) && is_inode_number(record.inode.get())
+    is_name(record.name.as_slice()) && is_inode_number(record.inode)
 }
 
 /// Whether there are no more records than a directory may have, each of them sound.

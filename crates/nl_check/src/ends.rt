@@ -1,10 +1,10 @@
 //! Where the data of a tree ends, by one node of each level.
 ghost use Rattle.std.specs.Prelude.{◌≡◌, ◌<◌, ◌≤◌, ◌-◌, ◌*◌, ◌^◌, ℕ, suc, IfSome, Some};
-ghost use Rattle.nl_types.specs.Roots.{Tree as AnyTree, place_at};
+ghost use Rattle.nl_types.specs.Blocks.Roots.{Tree as AnyTree, place_at};
 ghost use Rattle.nl_check.specs.Private.BesideTrees.{IsEndOfTree, IsLastSlot};
-ghost use Rattle.nl_check.specs.Private.TreePlaces.{IsEnd, IsUnder};
+ghost use Rattle.nl_blocktree.specs.TreePlaces.{IsEnd, IsUnder};
 
-use crate::tree_nodes::indexes_below;
+use nl_blocktree::indexes_below;
 use nl_layout::{Level, Node, SLOTS};
 use nl_types::{Page, VirtualNumber};
 use nl_vstore::VRead;

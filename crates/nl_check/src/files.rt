@@ -1,6 +1,6 @@
 //! What is judged of a file by its inode and its blocks.
 ghost use Rattle.std.specs.Prelude.{◌≡◌, ◌↔◌, ◌+◌, ◌*◌, ◌/◌, ◌<◌, ◌≤◌, ℕ, IsTrue, slice_index};
-ghost use Rattle.nl_types.specs.Roots.{page_at};
+ghost use Rattle.nl_types.specs.Blocks.Roots.{page_at};
 ghost use Rattle.nl_layout.specs.Root.{root_of};
 ghost use Rattle.nl_tree.specs.Held.{byte_stored};
 ghost use Rattle.nl_check.specs.Private.SoundInodes.{IsMeasured};
@@ -8,11 +8,9 @@ ghost use Rattle.nl_check.specs.Private.SoundFiles.{IsSoundFile};
 
 use nl_blocktree::get;
 use nl_layout::Inode;
+use nl_types::limits::FILE_LIMIT;
 use nl_types::{BLOCK_SIZE, Page};
 use nl_vstore::VRead;
-
-/// The most bytes of a file.
-const FILE_LIMIT: u64 = 67_108_864;
 
 /// Whether all bytes of a page from one on are zero.
 fn has_zeros_from(page: &Page, from: usize) -> bool

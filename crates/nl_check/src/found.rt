@@ -1,12 +1,12 @@
 //! What was found in the checkpoint that was walked last.
 ghost use Rattle.std.specs.Prelude.{◌≡◌, ◌<◌, ◌+◌, ◌^◌, ℕ, length, false, true, IfErr, IfOk};
 ghost use Rattle.nl_types.specs.declared.error.VolError;
-ghost use Rattle.nl_types.specs.Roots.{Pages, Root as AnyRoot};
-ghost use Rattle.nl_check.specs.MetFiles.{is_met};
+ghost use Rattle.nl_types.specs.Blocks.Roots.{Pages, Root as AnyRoot};
+ghost use Rattle.nl_blocktree.specs.Walked.{is_met};
 ghost use Rattle.nl_check.specs.Private.SoundInodes.{TellsInodes};
 
 use crate::kinds::Kinds;
-use crate::meeting::Met;
+use nl_blocktree::Met;
 use nl_types::VolError;
 use std::alloc::Global;
 

@@ -1,9 +1,9 @@
 //! Whether a checkpoint that was walked holds the tree that its entry tells of.
 ghost use Rattle.std.specs.Prelude.{◌≡◌, ◌↔◌, ◌≤◌, ◌*◌, List, Bool, Option, length, false, IsTrue, IfOk, IfErr};
-ghost use Rattle.nl_types.specs.Limits as limits;
+ghost use Rattle.nl_types.specs.Plain.Limits as limits;
 ghost use Rattle.nl_types.specs.declared.error.VolError;
 ghost use Rattle.nl_layout.specs.Root.{root_of};
-ghost use Rattle.nl_check.specs.Judging.{IsTold};
+ghost use Rattle.nl_check.specs.Judging.{TellsTree};
 ghost use Rattle.nl_check.specs.Private.Naming.{HasKindsOf};
 ghost use Rattle.nl_check.specs.Private.Walks.{IsWalk};
 ghost use Rattle.nl_check.specs.Trees.{IsTreeOf};
@@ -29,7 +29,7 @@ pub(crate) fn has_size(size: u64, count: u64) -> bool
 /// and how many inodes are in use.
 fn is_told(kinds: &[Option<Kind>], walk: &Walk, entry: &CheckpointEntry) -> bool
     requires { length kinds.now ≤ limits.inode_limit }
-    ensures { IsTrue result ↔ IsTold kinds.now walk.now entry.now }
+    ensures { IsTrue result ↔ TellsTree kinds.now walk.now entry.now }
 {
     walk.sound && has_size(entry.size, walk.count) && count_of(kinds) == entry.inodes
 }

@@ -1,6 +1,6 @@
 //! What is judged of an inode by itself, and what is known of the kinds of all.
-ghost use Rattle.std.specs.Prelude.{◌≡◌, ◌↔◌, ◌⊎◌, ◌<◌, ◌≤◌, ◌*◌, ℕ, length, false, IsTrue, IfOk, IfErr, Some, cond, is_some};
-ghost use Rattle.nl_types.specs.Limits as limits;
+ghost use Rattle.std.specs.Prelude.{◌≡◌, ◌↔◌, ◌⊎◌, ◌<◌, ◌≤◌, ◌*◌, length, false, IsTrue, IfOk, IfErr, Some, cond, is_some};
+ghost use Rattle.nl_types.specs.Plain.Limits as limits;
 ghost use Rattle.nl_types.specs.declared.error.VolError;
 ghost use Rattle.nl_types.specs.declared.kind.Kind.{Kind};
 ghost use Rattle.nl_layout.specs.Root.{root_of};
@@ -12,23 +12,16 @@ use crate::directories::is_sound_directory;
 use crate::files::is_sound_file;
 use crate::shape::INODES_PER_BLOCK;
 use nl_layout::{Inode, InodeKind};
-use nl_types::{Kind, VolError};
+use nl_types::limits::{FIRST_INODE, INODE_LIMIT, ROOT_INODE};
+use nl_types::{InodeNumber, Kind, VolError};
 use nl_vstore::VRead;
 use std::alloc::Global;
 
-/// The number of the root directory's inode.
-pub(crate) const ROOT_INODE: u64 = 2;
-
-/// The inode numbers are below this one.
-pub(crate) const INODE_LIMIT: usize = 524_288;
-
-/// The first number of an inode that isn't the root's.
-const FIRST_INODE: u64 = 11;
-
 /// Whether a number is that of the root directory's inode, or an ordinary one.
-pub(crate) fn is_inode_number(number: u64) -> bool
+pub(crate) fn is_inode_number(number: InodeNumber) -> bool
     ensures { IsTrue result ↔ IsInodeNumber number }
 {
+    let number = number.get();
     number == ROOT_INODE || (FIRST_INODE <= number && number < INODE_LIMIT as u64)
 }
 
@@ -48,7 +41,7 @@ pub(crate) fn kind_of(kind: InodeKind) -> Option<Kind>
 pub(crate) fn is_sound_inode<V: VRead>(
     alloc: Global,
     store: &V,
-    number: u64,
+    number: InodeNumber,
     inode: &Inode,
     count: u64,
 ) -> Result<bool, VolError>

@@ -1,17 +1,18 @@
 //! The kinds of all inodes, and of those that changed.
 ghost use Rattle.std.specs.Prelude.{◌≡◌, ◌<◌, ℕ, Option, length, true, IfErr, IsTrue};
-ghost use Rattle.nl_types.specs.Limits as limits;
+ghost use Rattle.nl_types.specs.Plain.Limits as limits;
 ghost use Rattle.nl_types.specs.declared.error.VolError;
-ghost use Rattle.nl_types.specs.Roots.{Pages, Root as AnyRoot};
+ghost use Rattle.nl_types.specs.Blocks.Roots.{Pages, Root as AnyRoot};
 ghost use Rattle.nl_layout.specs.declared.inode.InodeKind.TheVariants as kind;
 ghost use Rattle.nl_check.specs.Private.AlikeNames.{AreFiles};
 ghost use Rattle.nl_check.specs.Private.ChangedFiles.{AreFilesStill, AreNoted, HaveLater};
 ghost use Rattle.nl_check.specs.Private.SoundInodes.{TellsInodes, kind_in, kind_told};
 
 use crate::differing::ChangedFile;
-use crate::inodes::{INODE_LIMIT, kind_of};
+use crate::inodes::kind_of;
 use nl_layout::{Inode, InodeKind};
-use nl_types::{Kind, VolError};
+use nl_types::limits::INODE_LIMIT;
+use nl_types::{InodeNumber, Kind, VolError};
 use std::alloc::Global;
 use std::marker::Model;
 
@@ -24,7 +25,7 @@ pub(crate) struct Kinds {
 impl Model for Kinds {
     ghost use Rattle.std.specs.Prelude.{◌≡◌, List, Option, length};
     ghost use Rattle.nl_types.specs.declared.kind.Kind.{Kind};
-    ghost use Rattle.nl_types.specs.Limits as limits;
+    ghost use Rattle.nl_types.specs.Plain.Limits as limits;
 
     ghost Value = { List (Option Kind) };
 
@@ -50,14 +51,15 @@ impl Kinds {
     }
 
     /// Notes the kind of an inode, where its number may be one.
-    pub(crate) fn note(&mut self, number: u64, kind: Option<Kind>)
+    pub(crate) fn note(&mut self, number: InodeNumber, kind: Option<Kind>)
         ensures count { length self.new ≡ limits.inode_limit }
         ensures same { length self.new ≡ length self.old }
         ensures here { number < limits.inode_limit → kind_in self.new number ≡ kind }
         ensures others { (i : ℕ) → (i ≡ number → ⊥) → kind_in self.new i ≡ kind_in self.old i }
     {
-        if number < INODE_LIMIT as u64 {
-            self.places[number as usize] = kind;
+        let place = number.get();
+        if place < INODE_LIMIT as u64 {
+            self.places[place as usize] = kind;
         }
     }
 

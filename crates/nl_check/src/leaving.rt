@@ -2,17 +2,18 @@
 ghost use Rattle.std.specs.Prelude.{◌≡◌, ◌≢◌, ℕ, suc, length, IfErr, OnOk};
 ghost use Rattle.std.specs.List.{Contains};
 ghost use Rattle.nl_types.specs.declared.error.VolError;
-ghost use Rattle.nl_types.specs.Roots.{OfChain, Root as AnyRoot, Tree as AnyTree, kind_of};
+ghost use Rattle.nl_types.specs.Blocks.Roots.{OfChain, Root as AnyRoot, Tree as AnyTree, kind_of};
 ghost use Rattle.nl_layout.specs.Root.{root_of};
 ghost use Rattle.nl_files.specs.CheckpointRoots.{inode_root};
-ghost use Rattle.nl_check.specs.Shapes.{At, HasShape};
+ghost use Rattle.nl_check.specs.Shapes.{At};
+ghost use Rattle.nl_blocktree.specs.FileShapes.{HasShape};
 ghost use Rattle.nl_check.specs.declared.differing.ChangedFile.{ChangedFile};
 ghost use Rattle.nl_check.specs.Private.BesideTrees.{HasLeft, Leaves, StandAt, StandsAnew, TellsOn};
 ghost use Rattle.nl_check.specs.Private.ChangedFiles.{IsLostIn, StandsOf};
 
 use crate::differing::{ChangedFile, root_of_file};
-use crate::meeting::Met;
 use crate::subtrees::{is_named, page_under, slot_of, top_beside};
+use nl_blocktree::Met;
 use nl_layout::{Root, SLOTS};
 use nl_types::{VirtualNumber, VolError};
 use nl_vstore::VRead;

@@ -1,5 +1,5 @@
-//! The walk of a file's blocks, and checks of the checkpoints of an image: the shape of their blocks, the trees
-//! that their inodes hold, and the periods of their numbers.
+//! Checks of the checkpoints of an image: the shape of their blocks, the trees that their inodes hold, and the
+//! periods of their numbers.
 #![tactic(auto)]
 
 mod beside;
@@ -16,19 +16,14 @@ mod inodes;
 mod kinds;
 pub mod laws;
 mod leaving;
-mod meeting;
 mod meeting_anew;
 mod periods;
 mod shape;
 mod sizes;
 mod subtrees;
-mod tree_nodes;
 mod trees;
 mod turns;
-mod walking;
 
 pub use checks::first_fault;
 pub use conditions::ImageCondition;
-pub use meeting::Met;
 pub use sizes::size_of_blocks;
-pub use walking::walk_file;

@@ -2,11 +2,11 @@
 ghost use Rattle.std.specs.Prelude.{◌≡◌, ◌<◌, ◌^◌, ℕ, suc, length, IsTrue, IsSome, IfOk, IfErr, IfSome};
 ghost use Rattle.std.specs.List.{Contains};
 ghost use Rattle.nl_types.specs.declared.error.VolError;
-ghost use Rattle.nl_types.specs.Roots.{Root as AnyRoot, Tree as AnyTree};
+ghost use Rattle.nl_types.specs.Blocks.Roots.{Root as AnyRoot, Tree as AnyTree};
 ghost use Rattle.nl_layout.specs.Root.{root_of};
 ghost use Rattle.nl_files.specs.CheckpointRoots.{inode_root};
-ghost use Rattle.nl_check.specs.MetFiles.{Meets};
-ghost use Rattle.nl_check.specs.Shapes.{HasShape};
+ghost use Rattle.nl_blocktree.specs.FileShapes.{HasShape};
+ghost use Rattle.nl_blocktree.specs.Walked.{Meets};
 ghost use Rattle.nl_check.specs.declared.differing.ChangedFile.{ChangedFile};
 ghost use Rattle.nl_check.specs.Private.BesideTrees.{HasDataUnder, IsMetAnew, StandAt, TellsOn};
 ghost use Rattle.nl_check.specs.Private.ChangedFiles.{AreFilesMet, AreMetAnew, IsFileMet, IsNewIn, IsSoundNow, IsWholeFile};
@@ -15,8 +15,8 @@ ghost use Rattle.nl_check.specs.Private.SoundInodes.{IsMeasured, IsSoundInode};
 use crate::differing::{ChangedFile, root_of_file};
 use crate::ends::end_of_tree;
 use crate::inodes::is_sound_inode;
-use crate::meeting::{Met, meet};
 use crate::subtrees::{is_named, page_under, slot_of, top_beside};
+use nl_blocktree::{Met, meet};
 use nl_layout::{Level, Root, SLOTS};
 use nl_types::{VirtualNumber, VolError};
 use nl_vstore::VRead;
@@ -37,11 +37,13 @@ fn meet_anew<V: VRead>(
     ensures refused { IfErr result (λ e. e ≡ VolError.Memory) }
     ensures count { length met.new ≡ length met.old }
 {
-    if !meet(store, met, number) {
-        return Ok(false);
+    match meet(store, met, number) {
+        Ok(_) => {
+            changed.push(number)?;
+            Ok(true)
+        }
+        Err(_) => Ok(false),
     }
-    changed.push(number)?;
-    Ok(true)
 }
 
 /// Meets the numbers of a tree from a block down, but for those that the file beside it has at their places.

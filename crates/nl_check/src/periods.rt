@@ -5,8 +5,8 @@ ghost use Rattle.nl_check.specs.Conditions.{has};
 ghost use Rattle.nl_check.specs.Periods.{AreOfPeriods, has_in};
 ghost use Rattle.nl_check.specs.Private.Turns.{AreTurnedOfPeriods, AreTurns, IsOfPeriod, IsTurnOfPeriod, WereOfPeriods};
 
-use crate::meeting::Met;
 use crate::turns::{Turn, reach};
+use nl_blocktree::Met;
 use nl_types::{CheckpointNumber, Period, VirtualNumber};
 use nl_vstore::VRead;
 

@@ -1,21 +1,20 @@
 //! The walk over all blocks of a checkpoint.
 ghost use Rattle.std.specs.Prelude.{◌≡◌, ◌↔◌, ◌<◌, ◌+◌, ◌*◌, ◌^◌, ℕ, length, false, true, IsTrue, IsSome, IfOk, IfErr, IfSome, Some, None, Ok, option_copied};
 ghost use Rattle.nl_types.specs.declared.error.VolError;
-ghost use Rattle.nl_types.specs.Roots.{Root as AnyRoot, page_at};
+ghost use Rattle.nl_types.specs.Blocks.Roots.{Root as AnyRoot, page_at};
 ghost use Rattle.nl_layout.specs.Root.{root_of};
 ghost use Rattle.nl_ifile.specs.Inodes.{block_for, inode_at, inode_in};
 ghost use Rattle.nl_check.specs.Private.InodeBlocks.{HasInode, IsEntryIn, IsSpelled};
-ghost use Rattle.nl_check.specs.MetFiles.{is_met};
+ghost use Rattle.nl_blocktree.specs.Walked.{is_met};
 ghost use Rattle.nl_check.specs.Shapes.{IsShaped};
 ghost use Rattle.nl_check.specs.Private.SoundInodes.{TellsInodes};
 ghost use Rattle.nl_check.specs.Private.Walks.{AreKnown, IsBlockOf, IsWalk};
 
 use crate::found::Found;
 use crate::inodes::{is_sound_inode, kind_of};
-use crate::walking::walk_file;
-use nl_blocktree::Cursor;
+use nl_blocktree::{Cursor, walk};
 use nl_layout::{INODE_SIZE, Inode, InodeEntry, Root};
-use nl_types::{BLOCK_SIZE, Page, VolError};
+use nl_types::{BLOCK_SIZE, InodeNumber, Page, VolError};
 use nl_vstore::VRead;
 use std::alloc::Global;
 
@@ -91,7 +90,7 @@ fn walk_inode<V: VRead>(
     alloc: Global,
     store: &V,
     found: &mut Found,
-    number: u64,
+    number: InodeNumber,
     inode: Option<Inode>,
     sound: bool,
 ) -> Result<Option<bool>, VolError>
@@ -110,7 +109,7 @@ fn walk_inode<V: VRead>(
     let Some(inode) = inode else {
         return Ok(Some(sound));
     };
-    let Some(count) = walk_file(store, &mut found.met, inode.root) else {
+    let Ok(count) = walk(store, &mut found.met, inode.root) else {
         return Ok(None);
     };
     let is_sound = is_sound_inode(alloc, store, number, &inode, count)?;
@@ -147,7 +146,7 @@ fn walk_block<V: VRead>(
     }
     let mut are_sound = sound;
     for place in 0..INODES_PER_BLOCK {
-        let number = INODES_PER_BLOCK as u64 * index + place as u64;
+        let number = InodeNumber::new(INODES_PER_BLOCK as u64 * index + place as u64);
         let inode = inode_at_place(page, place);
         let Some(now) = walk_inode(alloc, store, found, number, inode, are_sound)? else {
             return Ok(None);
@@ -238,7 +237,7 @@ pub(crate) fn walk_checkpoint<V: VRead>(
     ensures refused { IfErr result (λ e. e ≡ VolError.Memory) }
     ensures count { length found.new.met ≡ length found.old.met }
 {
-    let Some(count) = walk_file(store, &mut found.met, *root) else {
+    let Ok(count) = walk(store, &mut found.met, *root) else {
         return Ok(None);
     };
     match walk_inodes(alloc, store, found, root, count)? {

@@ -1,13 +1,11 @@
 //! The size that the blocks of a file have.
-ghost use Rattle.std.specs.Prelude.{◌≡◌, ◌<◌, ◌≤◌, ◌+◌, ◌*◌, ◌^◌, ℕ, length, false, IsSome, IfNone, IfOk, IfErr, IfSome, None, Ok};
+ghost use Rattle.std.specs.Prelude.{◌≡◌, ◌<◌, ◌≤◌, ◌*◌, ◌^◌, ℕ, length, false, IsSome, IfNone, IfOk, IfErr, IfSome, None, Ok};
 ghost use Rattle.nl_types.specs.declared.error.VolError;
 ghost use Rattle.nl_layout.specs.Root.{root_of};
-ghost use Rattle.nl_check.specs.MetFiles.{is_met};
-ghost use Rattle.nl_check.specs.Shapes.{StandsAlone};
-ghost use Rattle.nl_check.specs.Trees.{IsSizeOf};
+ghost use Rattle.nl_blocktree.specs.FileShapes.{IsSizeOf, StandsAlone};
+ghost use Rattle.nl_blocktree.specs.Walked.{is_met};
 
-use crate::meeting::Met;
-use crate::walking::walk_file;
+use nl_blocktree::{Met, walk};
 use nl_layout::Root;
 use nl_types::{BLOCK_SIZE, VolError};
 use nl_vstore::VRead;
@@ -22,8 +20,10 @@ fn size_met<V: VRead>(store: &V, met: &mut Met, root: Root) -> Option<u64>
     ensures size { IfSome result (IsSizeOf (V.pages store.now) (root_of root)) }
     ensures none { IfNone result (StandsAlone (V.pages store.now) (root_of root) → ⊥) }
 {
-    let count = walk_file(store, met, root)?;
-    Some(BLOCK_SIZE as u64 * count)
+    match walk(store, met, root) {
+        Ok(count) => Some(BLOCK_SIZE as u64 * count),
+        Err(_) => None,
+    }
 }
 
 /// The size that the blocks of a file have: 1,024 bytes for each index up to the last one. None where the

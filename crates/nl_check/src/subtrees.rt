@@ -1,7 +1,7 @@
 //! The nodes of a tree, beside what another file has at their places.
-ghost use Rattle.std.specs.Prelude.{◌≡◌, ◌↔◌, ◌<◌, ℕ, IsTrue, Some, option_copied};
+ghost use Rattle.std.specs.Prelude.{◌≡◌, ◌↔◌, ◌<◌, IsTrue, Some, option_copied};
 ghost use Rattle.std.specs.Option.{option_and_then};
-ghost use Rattle.nl_types.specs.Roots.{Pages, numbered, place_at, slot};
+ghost use Rattle.nl_types.specs.Blocks.Roots.{Pages, numbered, place_at, slot};
 ghost use Rattle.nl_layout.specs.Root.{root_of};
 ghost use Rattle.nl_check.specs.Private.ChangedFiles.{of_height};
 

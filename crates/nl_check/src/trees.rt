@@ -1,29 +1,30 @@
 //! Whether the names of a checkpoint form a tree.
 ghost use Rattle.std.specs.Prelude.{◌≡◌, ◌↔◌, ◌<◌, ◌≤◌, ◌+◌, ℕ, List, [], ◌∷◌, length, slice_get, false, IsTrue, IfOk, IfErr, OnOk, Some, None};
-ghost use Rattle.nl_types.specs.Limits as limits;
+ghost use Rattle.nl_types.specs.Plain.Limits as limits;
 ghost use Rattle.nl_types.specs.declared.error.VolError;
 ghost use Rattle.nl_tree.specs.Held.{Holding, IsHolding, inodes_of_holding};
 ghost use Rattle.nl_check.specs.InodeTrees.{FormTree};
 ghost use Rattle.nl_check.specs.Private.Naming.{IsNaming, IsQueued, IsTaken, TellsKinds, awaited_count, records_in};
 ghost use Rattle.nl_check.specs.Private.SoundInodes.{kind_in};
 
-use crate::inodes::ROOT_INODE;
 use nl_dirs::Record;
 use nl_tree::TreeRead;
+use nl_types::limits::ROOT_INODE;
 use nl_types::{InodeNumber, Kind, VolError};
 use std::alloc::Global;
 
 /// Takes a number out of those that are awaited, where it is awaited as this kind.
-fn take_awaited(awaited: &mut [Option<Kind>], number: u64, kind: Kind) -> bool
+fn take_awaited(awaited: &mut [Option<Kind>], number: InodeNumber, kind: Kind) -> bool
     ensures yes { IsTrue result → IsTaken number kind awaited.old awaited.new }
     ensures no { result ≡ false → kind_in awaited.old number ≡ Some kind → ⊥ }
     ensures kept { result ≡ false → awaited.new ≡ awaited.old }
     ensures count { length awaited.new ≡ length awaited.old }
 {
-    if number >= awaited.len() as u64 || awaited[number as usize] != Some(kind) {
+    let place = number.get();
+    if place >= awaited.len() as u64 || awaited[place as usize] != Some(kind) {
         return false;
     }
-    awaited[number as usize] = None;
+    awaited[place as usize] = None;
     true
 }
 
@@ -55,7 +56,7 @@ fn follow_record(
         → kind_in awaited.old «record».now.inode ≡ Some «record».now.kind → ⊥) }
     ensures refused { IfErr result (λ e. e ≡ VolError.Memory) }
 {
-    if !take_awaited(awaited, record.inode.get(), record.kind) {
+    if !take_awaited(awaited, record.inode, record.kind) {
         return Ok(false);
     }
     queue_directory(queue, record)?;
@@ -112,7 +113,7 @@ fn follow_directory<T: TreeRead>(
         ≤ length queue.old.items + awaited_count awaited.old)) }
     ensures refused { IfErr result (λ e. e ≡ VolError.Memory) }
 {
-    let records = tree.records(alloc, queue[turn].get())?;
+    let records = tree.records(alloc, queue[turn])?;
     follow_records(awaited, queue, records.as_slice())
 }
 
@@ -169,7 +170,7 @@ pub(crate) fn forms_tree<T: TreeRead>(
         → IsHolding held → TellsKinds held awaited.old → FormTree (inodes_of_holding held) → ⊥) }
     ensures refused { IfErr result (λ e. e ≡ VolError.Memory) }
 {
-    if !take_awaited(awaited, ROOT_INODE, Kind::Directory) {
+    if !take_awaited(awaited, InodeNumber::new(ROOT_INODE), Kind::Directory) {
         return Ok(false);
     }
     if !follow_names(alloc, tree, awaited)? {

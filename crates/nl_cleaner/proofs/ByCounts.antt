@@ -7,9 +7,10 @@ use Rattle.std.proofs.lemmas.Bool.{leb-false, lt-leb}
 use Rattle.std.proofs.lemmas.List.FromFn.{get_or-map-range_with_len}
 use Rattle.nl_types.specs.declared.error.VolError.{VolError}
 use Rattle.nl_types.specs.declared.error.VolError.TheVariants.{BadRange}
-use Rattle.nl_types.specs.Segments.{info_of}
+use Rattle.nl_types.specs.Blocks.Entries.{is_needed}
+use Rattle.nl_types.specs.Blocks.Segments.{info_of}
 use Rattle.nl_vstore.specs.Located.{needed_count, payload_block, payload_count_in}
-use Rattle.nl_commit.specs.CleanerViews.{counts_after, needed_after, needed_from}
+use Rattle.nl_commit.specs.CleanerViews.{counts_after, needed_after, staying_in}
 use Rattle.nl_commit.specs.Layout.{Layout}
 use Rattle.nl_cleaner.specs.declared.choice.Candidate.{Candidate}
 use Rattle.nl_cleaner.specs.Plan.{candidate_in, is_dirty, stamp_in}
@@ -27,7 +28,7 @@ told-count (n ∷ counts) (suc segment) = told-count counts segment
 pub count-of : (l : Layout) (below segment : ℕ) → segment < length l.store.segments.each
     → slice_index_or (counts_after l below) segment 0 ≡ needed_after l below segment
 count-of l below segment there =
-    get_or-map-range_with_len (needed_count l.store (needed_from below l.lists.table)) 0
+    get_or-map-range_with_len (needed_count l.store (is_needed (staying_in l below))) 0
     (length l.store.segments.each) segment segment 0 there (omega arith)
 
 none-by : (c : Candidate) (dirty may does : Bool) → (dirty && may) ≡ false → (may ≡ false → does ≡ false)

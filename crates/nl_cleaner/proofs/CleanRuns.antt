@@ -9,10 +9,10 @@ use Rattle.nl_types.specs.declared.event.Event.{Event}
 use Rattle.nl_types.specs.declared.event.Event.TheVariants.{Move, Retire}
 use Rattle.nl_types.specs.declared.reply.Answer.TheVariants.{Freed}
 use Rattle.nl_types.specs.declared.segment.SegmentState.TheVariants.{Dirty}
-use Rattle.nl_types.specs.Entries.{is_needed}
-use Rattle.nl_types.specs.Runs.{Run}
-use Rattle.nl_types.specs.Segments.{clean_info, info_of}
-use Rattle.nl_types.specs.Worlds.{Reply}
+use Rattle.nl_types.specs.Blocks.Entries.{is_needed}
+use Rattle.nl_types.specs.Plain.Runs.{Run}
+use Rattle.nl_types.specs.Blocks.Segments.{clean_info, info_of}
+use Rattle.nl_types.specs.Plain.Worlds.{Reply}
 use Rattle.nl_vstore.specs.Located.{needed_count, numbers_in}
 use Rattle.nl_reclaim.specs.Cleaning.{retired}
 use Rattle.nl_reclaim.specs.Moves.{FullMoves, HasMovedPages, KeepsNeeds, KeptStore, Retires}

@@ -6,9 +6,9 @@ use Rattle.std.proofs.lemmas.List.Elements.{All-tail}
 use Rattle.nl_types.specs.declared.event.Event.{Event}
 use Rattle.nl_types.specs.declared.event.Event.TheVariants.{Expire, Move, Retire}
 use Rattle.nl_types.specs.declared.reply.Answer.{Answer}
-use Rattle.nl_types.specs.Runs.{Run}
-use Rattle.nl_types.specs.Worlds.{Reply}
-use Rattle.nl_types.specs.NumberLists.{is_one_of}
+use Rattle.nl_types.specs.Plain.Runs.{Run}
+use Rattle.nl_types.specs.Plain.Worlds.{Reply}
+use Rattle.nl_types.specs.Plain.NumberLists.{is_one_of}
 use Rattle.nl_types.specs.Facts.PartialMaps.{is_one_of-get_or}
 use Rattle.nl_vstore.specs.Located.{needed_count}
 use Rattle.nl_reclaim.specs.Moves.{KeptStore}

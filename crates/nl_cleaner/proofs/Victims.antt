@@ -9,7 +9,7 @@ use Rattle.std.proofs.lemmas.List.Quantifiers.{all_pairs_push}
 use Rattle.nl_types.specs.declared.segment.SegmentInfo.{SegmentInfo}
 use Rattle.nl_types.specs.declared.segment.SegmentState.{SegmentState}
 use Rattle.nl_types.specs.declared.segment.SegmentState.TheVariants.{Active, Clean, Dirty, Error}
-use Rattle.nl_types.specs.Segments.{clean_info, info_of}
+use Rattle.nl_types.specs.Blocks.Segments.{clean_info, info_of}
 use Rattle.nl_commit.specs.Layout.{Layout}
 use Rattle.nl_cleaner.specs.Private.Choice.{AreChosen, AreFirst, Ascend, IsOlderCandidate, with_candidate, candidates_in, segment_of}
 use Rattle.nl_cleaner.specs.declared.choice.Candidate.{Candidate}

@@ -3,13 +3,13 @@ ghost use Rattle.std.specs.Prelude.{◌≡◌, IfOk, map};
 ghost use Rattle.std.specs.List.Sorted.{IsPermutation};
 ghost use Rattle.nl_cleaner.specs.Private.Choice.{AreFirst, AreChosen, Ascend, InOrder, with_candidate, segment_of};
 
-use nl_types::Segment;
+use nl_types::{Moment, Segment};
 use std::alloc::{AllocError, Global};
 
-/// A segment that may be cleaned, with the moment of its last log in whole seconds.
+/// A segment that may be cleaned, with the moment of its last log.
 #[derive(Clone, Copy, Debug, PartialEq, Eq)]
 pub struct Candidate {
-    pub stamp: u64,
+    pub stamp: Moment,
     pub segment: Segment,
 }
 

@@ -5,8 +5,8 @@ ghost use Rattle.nl_cleaner.specs.Job.{IsOver, Stepped, next_event, job_after_re
 
 use nl_core::Pen;
 use nl_device::Device;
-use nl_protect::ends_round;
-use nl_types::{Answer, Event, Reply, Segment, VolError};
+use nl_rounds::ends_round;
+use nl_types::{Answer, Event, Moment, Reply, Segment, VolError};
 use std::marker::Model;
 
 /// What comes next in a round.
@@ -24,7 +24,7 @@ pub enum Stage {
 #[derive(Drop)]
 pub struct Job {
     stage: Stage,
-    moment: u64,
+    moment: Moment,
     period: u64,
     victims: Vec<Segment>,
     done: usize,
@@ -44,7 +44,7 @@ impl Job {
     ghost use Rattle.nl_cleaner.specs.Job.{Expiring, first_done};
 
     /// A round that takes these segments.
-    pub(crate) fn new(victims: Vec<Segment>, now: u64, period: u64) -> Job
+    pub(crate) fn new(victims: Vec<Segment>, now: Moment, period: u64) -> Job
         ensures { result ≡ record { stage = Expiring; moment = now; period = period; left = victims.items } }
     {
         Job {
@@ -64,12 +64,12 @@ impl Job {
     {
         match self.stage {
             Stage::Expiring => Some(Event::Expire {
-                now: self.moment,
+                now: self.moment.get(),
                 period: self.period,
             }),
             Stage::Cleaning => {
                 let segment = self.victims.get(self.done)?;
-                Some(pen.cleaning_event(*segment, self.moment))
+                Some(pen.cleaning_event(*segment, self.moment.get()))
             }
             Stage::Ended => None,
         }

@@ -1,6 +1,6 @@
 //! Which segments a round takes.
 ghost use Rattle.std.specs.Prelude.{◌≡◌, ℕ, ◌-◌, ◌<◌, ◌&&◌, nat_le, length, slice_index_or, IfOk, IsOkUnless};
-ghost use Rattle.nl_types.specs.Segments.{info_of};
+ghost use Rattle.nl_types.specs.Blocks.Segments.{info_of};
 ghost use Rattle.nl_commit.specs.CleanerViews.{counts_after};
 ghost use Rattle.nl_commit.specs.Volume.{boundary_in};
 ghost use Rattle.nl_cleaner.specs.Private.Choice.{candidates_in};
@@ -9,11 +9,11 @@ ghost use Rattle.nl_cleaner.specs.Plan.{AreTaken, AreVictims, IsPlan, candidate_
 
 use crate::choice::{Candidate, choose, push_found};
 use crate::job::Job;
+use nl_config::Config;
 use nl_core::Pen;
 use nl_device::Device;
-use nl_protect::Config;
 use nl_sufile::SegmentCounts;
-use nl_types::{Segment, SegmentInfo, SegmentState, VolError};
+use nl_types::{Moment, Segment, SegmentInfo, SegmentState, VolError};
 use std::alloc::{AllocError, Global};
 
 fn segment_count<D: Device>(pen: &Pen<D>) -> u32
@@ -89,7 +89,7 @@ fn if_enough(segment: Segment, info: SegmentInfo, least: u64, reclaimable: u64) 
 {
     match info.state {
         SegmentState::Dirty if least <= reclaimable => Some(Candidate {
-            stamp: info.stamp,
+            stamp: Moment::new(info.stamp),
             segment,
         }),
         _ => None,
@@ -183,7 +183,7 @@ fn oldest_asked<D: Device>(
     alloc: Global,
     pen: &Pen<D>,
     config: &Config,
-    now: u64,
+    now: Moment,
 ) -> Result<Vec<Segment>, VolError>
     ensures victims { IfOk result (λ victims.
         AreVictims pen.now (boundary_in pen.now.lists.table now config.now.protection_period)
@@ -201,7 +201,7 @@ fn taken<D: Device>(
     alloc: Global,
     pen: &Pen<D>,
     config: &Config,
-    now: u64,
+    now: Moment,
 ) -> Result<Vec<Segment>, VolError>
     ensures taken { IfOk result (λ segments. AreTaken pen.now config.now now segments.items) }
     ensures refused { IsOkUnless result VolError.Memory }
@@ -219,7 +219,7 @@ pub fn plan<D: Device>(
     alloc: Global,
     pen: &Pen<D>,
     config: &Config,
-    now: u64,
+    now: Moment,
 ) -> Result<Job, VolError>
     ensures plan { IfOk result (IsPlan pen.now config.now now) }
     ensures refused { IsOkUnless result VolError.Memory }

@@ -1,11 +1,11 @@
 //! Rounds of cleaning beside readers.
 use crate::job::Job;
 use crate::planning::plan;
-use nl_commit::Round;
+use nl_config::Config;
 use nl_core::Pen;
 use nl_device::Device;
-use nl_protect::Config;
-use nl_types::{Event, Reply, VolError};
+use nl_rounds::Round;
+use nl_types::{Event, Moment, Reply, VolError};
 use std::alloc::Global;
 
 impl<D: Device> Round<Pen<D>> for Job {
@@ -14,7 +14,7 @@ impl<D: Device> Round<Pen<D>> for Job {
 
     ghost habits = { cleaning_habits };
 
-    fn plan(alloc: Global, pen: &Pen<D>, config: &Config, now: u64) -> Result<Self, VolError> {
+    fn plan(alloc: Global, pen: &Pen<D>, config: &Config, now: Moment) -> Result<Self, VolError> {
         plan(alloc, pen, config, now)
     }
 

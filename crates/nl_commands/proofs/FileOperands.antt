@@ -2,7 +2,7 @@
 use Rattle.std.proofs.Common.{◌≡◌, ◌≢◌, ◌≤◌, ◌<◌, ◌∙◌, ℕ, List, [], ◌∷◌, Bor, Option, Some, Result, Ok, Err, ap, sym, refl, arith, map, length, get_or, min}
 use Rattle.std.specs.Option.{ok_or}
 use Rattle.clap.specs.Words.{Text}
-use Rattle.nl_types.specs.Calls.{and_then, IsUnless}
+use Rattle.nl_types.specs.Plain.Calls.{and_then, IsUnless}
 use Rattle.nl_types.specs.declared.event.Change.TheVariants.{Write}
 use Rattle.nl_commands.specs.declared.command.Command.TheVariants.{Change, Fill}
 use Rattle.nl_commands.specs.declared.error.LineError.{LineError}

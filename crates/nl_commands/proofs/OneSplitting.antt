@@ -1,6 +1,6 @@
 -- A text is parted into words in one way.
 use Rattle.std.proofs.Common.{arith, ℕ, suc, ◌≡◌, ◌≢◌, ◌⊎◌, true, false, true≢false, List, [], ◌∷◌, ◌++◌, drop, slice_index, All, inl, inr, ap, refl, sym, subst, ◌∙◌}
-use Rattle.nl_types.specs.Characters.{is_blank}
+use Rattle.nl_types.specs.Plain.Characters.{is_blank}
 use Rattle.nl_commands.specs.Splitting.{IsOpen, IsQuotedWord, IsFirstWord, IsTrimmed, BeginsWith}
 
 -- ---- a list that is cut at the first element that is not inside

@@ -5,7 +5,7 @@ use Rattle.std.specs.Str.{bytes_eq}
 use Rattle.clap.proofs.OnLiterals.{clap_on_literals}
 use Rattle.clap.proofs.WalkLemmas.{both}
 use Rattle.clap.specs.Words.{Row, Text}
-use Rattle.nl_types.specs.Calls.{and_then, IsUnless}
+use Rattle.nl_types.specs.Plain.Calls.{and_then, IsUnless}
 use Rattle.nl_commands.specs.declared.error.LineError.{LineError}
 use Rattle.nl_commands.specs.declared.error.LineError.TheVariants.{Memory}
 use Rattle.nl_commands.specs.CommandNames.{CommandEntry, commands, entry_in}

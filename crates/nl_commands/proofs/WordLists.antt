@@ -1,7 +1,7 @@
 -- Words that are read one after another.
 use Rattle.std.proofs.Common.{◌≡◌, ◌∙◌, ◌++◌, ◌+◌, ◌<◌, ℕ, ap, refl, sym, append_assoc, add-one, drop-cons, List, [], ◌∷◌, length, map, drop, get_or, Bor, Result, Ok, Err}
 use Rattle.clap.specs.Words.{Text}
-use Rattle.nl_types.specs.Calls.{and_then}
+use Rattle.nl_types.specs.Plain.Calls.{and_then}
 use Rattle.nl_commands.specs.declared.error.LineError.{LineError}
 use Rattle.nl_commands.specs.GivenOperands.{each_in}
 

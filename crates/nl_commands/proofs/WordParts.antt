@@ -8,7 +8,7 @@ use Rattle.std.proofs.lemmas.Bool.Decides.{nat_tests, leb_tells}
 use Rattle.std.specs.Str.{NoCharPasses}
 use Rattle.std.specs.Char.{char_set_contains, encode_utf8, IsScalar}
 use Rattle.std.specs.Str.Pattern.{FindsBy, FindsPrefixBy, SplitsAroundMatch, CutsPrefixes, IsTrimStartMatches}
-use Rattle.nl_types.specs.Characters.{is_blank}
+use Rattle.nl_types.specs.Plain.Characters.{is_blank}
 use Rattle.nl_commands.specs.Splitting.{IsQuotedWord, IsOpen, IsPlainWord, IsFirstWord, IsTrimmed, BeginsWith}
 
 -- ---- a quoted word

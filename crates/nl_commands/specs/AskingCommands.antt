@@ -1,7 +1,7 @@
 -- Commands that show what is at a path: what they may be given, and what they ask for then.
 use Rattle.std.specs.Prelude.{List, [], ◌∷◌, codes, Result, Ok}
 use Rattle.clap.specs.Words.{Row, Rule}
-use Rattle.nl_types.specs.Calls.{and_then}
+use Rattle.nl_types.specs.Plain.Calls.{and_then}
 use Rattle.nl_commands.specs.declared.command.Command.{Command}
 use Rattle.nl_commands.specs.declared.command.Command.TheVariants.{Catm, Show}
 use Rattle.nl_commands.specs.declared.command.Shown.{Shown}

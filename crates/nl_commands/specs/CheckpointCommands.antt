@@ -3,7 +3,7 @@
 use Rattle.std.specs.Prelude.{Bool, true, false, if◌then◌else◌, List, [], ◌∷◌, codes, Result, Ok, Err}
 use Rattle.std.specs.Str.{bytes_eq}
 use Rattle.clap.specs.Words.{Row, Rule, Text}
-use Rattle.nl_types.specs.Calls.{and_then}
+use Rattle.nl_types.specs.Plain.Calls.{and_then}
 use Rattle.nl_types.specs.declared.event.Mode.{Mode}
 use Rattle.nl_types.specs.declared.event.Mode.TheVariants.{Plain, Snapshot}
 use Rattle.nl_types.specs.declared.row.ListOptions.{ListOptions}

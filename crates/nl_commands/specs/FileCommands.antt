@@ -1,9 +1,9 @@
 -- Commands that change the tree of files: what they may be given, and what they ask for then.
 use Rattle.std.specs.Prelude.{ℕ, ◌+◌, List, [], ◌∷◌, codes, min, Result, Ok, Err}
 use Rattle.clap.specs.Words.{Row, Rule, Text}
-use Rattle.nl_types.specs.Calls.{and_then}
+use Rattle.nl_types.specs.Plain.Calls.{and_then}
 use Rattle.nl_types.specs.declared.event.Change.TheVariants.{Create, Mkdir, Write, Truncate, Unlink, Rmdir, Rename}
-use Rattle.nl_types.specs.Limits.{file_limit}
+use Rattle.nl_types.specs.Plain.Limits.{file_limit}
 use Rattle.nl_commands.specs.declared.command.Command.{Command}
 use Rattle.nl_commands.specs.declared.command.Command.TheVariants.{Change, Fill}
 use Rattle.nl_commands.specs.declared.error.LineError.{LineError}

@@ -1,7 +1,7 @@
 -- What help says of commands.
 use Rattle.std.specs.Prelude.{◌-◌, List, [], ◌∷◌, ◌++◌, codes, length, map, replicate}
 use Rattle.clap.specs.Words.{Text}
-use Rattle.nl_types.specs.Characters.{line_feed}
+use Rattle.nl_types.specs.Plain.Characters.{line_feed}
 use Rattle.nl_commands.specs.declared.names.CommandForm.{CommandForm}
 
 -- a line that begins so, and says so much from column 31 on, or behind a longer beginning

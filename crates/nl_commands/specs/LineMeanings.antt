@@ -1,7 +1,7 @@
 -- What a line means.
 use Rattle.std.specs.Prelude.{◌≡◌, ◌≢◌, ◌⊎◌, ℕ, List, [], ◌∷◌, slice_index, Option, None, Some, Result, Ok, Err, IsUtf8}
-use Rattle.nl_types.specs.Calls.{and_then}
-use Rattle.nl_types.specs.Characters.{hash_mark}
+use Rattle.nl_types.specs.Plain.Calls.{and_then}
+use Rattle.nl_types.specs.Plain.Characters.{hash_mark}
 use Rattle.clap.specs.Words.{Text}
 use Rattle.nl_commands.specs.declared.command.Command.{Command}
 use Rattle.nl_commands.specs.declared.error.LineError.{LineError}

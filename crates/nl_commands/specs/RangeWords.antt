@@ -1,8 +1,8 @@
 -- Ranges of checkpoints in words.
 use Rattle.std.specs.Prelude.{ℕ, ◌==◌, if◌then◌else◌, [], ◌∷◌, Option, None, Some, Result, Ok, Err}
 use Rattle.std.specs.Option.{option_map}
-use Rattle.nl_types.specs.Calls.{and_then}
-use Rattle.nl_types.specs.Characters.{dot}
+use Rattle.nl_types.specs.Plain.Calls.{and_then}
+use Rattle.nl_types.specs.Plain.Characters.{dot}
 use Rattle.clap.specs.Words.{Text}
 use Rattle.nl_commands.specs.declared.command.CheckpointRange.{CheckpointRange}
 use Rattle.nl_commands.specs.declared.command.CheckpointRange.TheVariants.{One, Between, Since}

@@ -1,7 +1,7 @@
 -- Commands on segments and mounts: what they may be given, and what they ask for then.
 use Rattle.std.specs.Prelude.{List, [], ◌∷◌, codes, Result, Ok}
 use Rattle.clap.specs.Words.{Row, Rule}
-use Rattle.nl_types.specs.Calls.{and_then}
+use Rattle.nl_types.specs.Plain.Calls.{and_then}
 use Rattle.nl_commands.specs.declared.command.Command.{Command}
 use Rattle.nl_commands.specs.declared.command.Command.TheVariants.{Lssu, Mount, Resize, Umount}
 use Rattle.nl_commands.specs.declared.error.LineError.{LineError}

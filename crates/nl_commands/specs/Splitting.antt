@@ -1,7 +1,7 @@
 -- How a line is parted into words.
 use Rattle.std.specs.Prelude.{◌≡◌, ◌≢◌, ◌⊎◌, ℕ, true, false, List, [], ◌∷◌, ◌++◌, drop, slice_index}
 use Rattle.std.specs.List.{All}
-use Rattle.nl_types.specs.Characters.{is_blank, quotation_mark}
+use Rattle.nl_types.specs.Plain.Characters.{is_blank, quotation_mark}
 
 -- the text begins with a quotation mark and has no other
 pub record IsOpen (text : List ℕ) : Type 0 where

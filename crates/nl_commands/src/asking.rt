@@ -1,6 +1,6 @@
 //! Commands that show what is at a path: what they may be given, and what they ask for then. Their
 //! errors: `Usage` where a word is not of its kind, and `Memory`.
-ghost use Rattle.nl_types.specs.Calls.{IsUnless};
+ghost use Rattle.nl_types.specs.Plain.Calls.{IsUnless};
 ghost use Rattle.nl_commands.specs.AskingCommands.{catm_given, show_given};
 
 use crate::command::{Command, Shown};

@@ -1,7 +1,7 @@
 //! Commands on checkpoints, and the moment that these are made at: what they may be given, and what
 //! they ask for then. Their errors: `Usage` where a word is not of its kind, and `Memory`.
 ghost use Rattle.std.specs.Prelude.{◌≡◌};
-ghost use Rattle.nl_types.specs.Calls.{IsUnless};
+ghost use Rattle.nl_types.specs.Plain.Calls.{IsUnless};
 ghost use Rattle.nl_commands.specs.CheckpointCommands.{at_given, chcp_given, lscp_given, mkcp_given, mode_at, mode_if, mode_in, rmcp_given};
 
 use crate::command::Command;

@@ -1,7 +1,7 @@
 //! Commands that change the tree of files: what they may be given, and what they ask for then. Their
 //! errors: `Usage` where a word is not of its kind, and `Memory`.
 ghost use Rattle.std.specs.Prelude.{◌≡◌, min};
-ghost use Rattle.nl_types.specs.Calls.{IsUnless};
+ghost use Rattle.nl_types.specs.Plain.Calls.{IsUnless};
 ghost use Rattle.nl_commands.specs.FileCommands.{create_given, fill_given, mkdir_given, most_filled, mv_given, rm_given, rmdir_given, truncate_given, write_given};
 
 use crate::command::Command;
@@ -10,10 +10,11 @@ use crate::grammar::{Argument, Given};
 use crate::numbers::number;
 use crate::operands::{byte_in, bytes_at, bytes_of};
 use nl_types::Change;
+use nl_types::limits::FILE_LIMIT;
 use std::alloc::Global;
 
 /// One byte more than a file may have: what `fill` is refused for all greater counts too.
-const MOST_FILLED: u64 = 67_108_865;
+const MOST_FILLED: u64 = FILE_LIMIT + 1;
 
 /// What `create`, `mkdir`, `rm` and `rmdir` are given.
 pub const PATH_ARGUMENTS: &[Argument<'static>] = &[Argument::Operand("path")];

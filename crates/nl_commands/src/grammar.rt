@@ -2,7 +2,7 @@
 //! the library that reads them.
 ghost use Rattle.std.specs.Prelude.{◌≡◌, IfOk, false, map, option_map, true};
 ghost use Rattle.clap.specs.Words.{all_of, app_of, first_of, rule_of};
-ghost use Rattle.nl_types.specs.Calls.{IsUnless};
+ghost use Rattle.nl_types.specs.Plain.Calls.{IsUnless};
 ghost use Rattle.nl_commands.specs.Grammars.{Reads, argument_rule, bare_grammar, grammar, has_hyphen, is_from_words, is_readable, is_used, parsed};
 
 use crate::error::LineError;

@@ -1,6 +1,6 @@
 //! A line of a script, as a command.
 ghost use Rattle.std.specs.Prelude.{◌≡◌, ◌≢◌, map};
-ghost use Rattle.nl_types.specs.Calls.{IsUnless};
+ghost use Rattle.nl_types.specs.Plain.Calls.{IsUnless};
 ghost use Rattle.nl_commands.specs.CommandNames.{command_meant};
 ghost use Rattle.nl_commands.specs.LineMeanings.{MeansLine, MeansText, words_meant};
 

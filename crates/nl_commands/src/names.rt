@@ -1,6 +1,6 @@
 //! The commands: the word that names each, and what it may be given.
 ghost use Rattle.std.specs.Prelude.{◌≡◌, map, option_map, true};
-ghost use Rattle.nl_types.specs.Calls.{IsUnless};
+ghost use Rattle.nl_types.specs.Plain.Calls.{IsUnless};
 ghost use Rattle.nl_commands.specs.CommandNames.{command_given, commands, entry_in, entry_meant, entry_of, meant_if_named};
 ghost use Rattle.nl_commands.specs.Grammars.{argument_rule, grammar, is_readable};
 

@@ -1,6 +1,6 @@
 //! What a command is given, by the names of its grammar.
 ghost use Rattle.std.specs.Prelude.{◌≡◌, Ok, map, nat_lt};
-ghost use Rattle.nl_types.specs.Calls.{IsUnless};
+ghost use Rattle.nl_types.specs.Plain.Calls.{IsUnless};
 ghost use Rattle.nl_commands.specs.GivenOperands.{byte_in, byte_of, number_at, numbers_at, numbers_in, optional_number_at, ranges_at, ranges_in, word_at, words_at};
 
 use crate::command::CheckpointRange;

@@ -1,5 +1,5 @@
 -- Which inodes and blocks a change of the current tree changes.
-use Rattle.nl_types.specs.Roots.{Pages}
+use Rattle.nl_types.specs.Blocks.Roots.{Pages}
 use Rattle.nl_types.specs.declared.event.Change.{Change}
 use Rattle.nl_layout.specs.Root.{root_of}
 use Rattle.nl_tree.specs.Became.{holding_over}

@@ -6,12 +6,12 @@ use Rattle.nl_types.specs.declared.event.Event.{Event}
 use Rattle.nl_types.specs.declared.event.Event.TheVariants as event
 use Rattle.nl_types.specs.declared.reply.Answer.{Answer}
 use Rattle.nl_types.specs.declared.reply.Answer.TheVariants.{Done, Freed, Moved}
-use Rattle.nl_types.specs.Calls.{and_then}
-use Rattle.nl_types.specs.Entries.{Entry, is_needed}
-use Rattle.nl_types.specs.Limits.{checkpoint_number_limit, is_geometry}
-use Rattle.nl_types.specs.Placing.{LacksSpace}
-use Rattle.nl_types.specs.Segments.{Segments}
-use Rattle.nl_types.specs.Worlds.{Reply}
+use Rattle.nl_types.specs.Plain.Calls.{and_then}
+use Rattle.nl_types.specs.Blocks.Entries.{Entry, is_needed}
+use Rattle.nl_types.specs.Plain.Limits.{checkpoint_number_limit, is_geometry}
+use Rattle.nl_types.specs.Blocks.Placing.{LacksSpace}
+use Rattle.nl_types.specs.Blocks.Segments.{Segments}
+use Rattle.nl_types.specs.Plain.Worlds.{Reply}
 use Rattle.nl_cpfile.specs.Tables as cpfile
 use Rattle.nl_vstore.specs.Located.{needed_count, needed_in}
 use Rattle.nl_vstore.specs.Stores.{HasGrown, IsGrowthRefused, IsMoveRefused, IsReclaimed, Store}

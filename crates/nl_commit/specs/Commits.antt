@@ -3,9 +3,9 @@ use Rattle.std.specs.Prelude.{◌≡◌, ◌≢◌, ℕ, ◌+◌, ◌-◌, ◌*�
 use Rattle.std.specs.List.{AllByRecursion, filter}
 use Rattle.std.specs.Option.{option_map}
 use Rattle.nl_types.specs.declared.event.Mode.TheVariants.{Snapshot}
-use Rattle.nl_types.specs.Entries.{Place}
-use Rattle.nl_types.specs.Roots.{Pages}
-use Rattle.nl_types.specs.Trees.{Tree}
+use Rattle.nl_types.specs.Blocks.Entries.{Place}
+use Rattle.nl_types.specs.Blocks.Roots.{Pages}
+use Rattle.nl_types.specs.Plain.Trees.{Tree}
 use Rattle.nl_layout.specs.Root.{root_of}
 use Rattle.nl_layout.specs.declared.root.Root.{Root}
 use Rattle.nl_files.specs.CheckpointRoots.{IsTreeSound}
@@ -70,8 +70,8 @@ applied x (Freed gone) = record x { numbers = without_numbers gone x.numbers }
 applied x (Resized segments blocks) = record x { numbers = with_room segments blocks x.numbers }
 
 -- what readers see after these commits
-abbrev pub image_of : List Commit → Shown
-image_of log = fold applied nothing log
+abbrev pub shown_after : List Commit → Shown
+shown_after log = fold applied nothing log
 
 -- ---- what is true of every image
 
@@ -83,7 +83,7 @@ pub record HasTree (pages : Pages) (root : Root) : Type 0 where
 
 -- Each kept checkpoint stands for a tree. A mount was given its number, and its checkpoint is a kept
 -- snapshot.
-pub record IsImage (x : Shown) : Type 0 where
+pub record IsShownImage (x : Shown) : Type 0 where
   pub table : IsTable x.table
   pub trees : (n : ℕ) (c : Checkpoint) → kept_at n x.table ≡ Some c
       → HasTree (pages_shown x) (checkpoint_root c)
@@ -120,7 +120,7 @@ IsNew x (Freed gone) = Unit {0}
 IsNew x (Resized segments blocks) = length x.numbers ≤ segments * blocks + 1
 
 pub record IsNext (x : Shown) (c : Commit) : Type 0 where
-  pub image : IsImage (applied x c)
+  pub image : IsShownImage (applied x c)
   pub keeps : KeepsCheckpoints x (applied x c)
   pub new : IsNew x c
 
@@ -130,7 +130,7 @@ AllNext x (c ∷ commits) = IsNext x c × AllNext (applied x c) commits
 
 -- the first commit shows the whole volume, and each later one may follow those before it
 abbrev pub IsHistory : List Commit → Type 0
-IsHistory (Whole w ∷ commits) = IsImage (whole_of w) × AllNext (whole_of w) commits
+IsHistory (Whole w ∷ commits) = IsShownImage (whole_of w) × AllNext (whole_of w) commits
 IsHistory log = ⊥
 
 -- ---- laws of histories
@@ -147,6 +147,6 @@ pub record StillShows (x y : Shown) (m n : ℕ) (c : Checkpoint) : Type 0 where
 -- what a mount shows in an image it shows in each later one, until it is given back
 abbrev pub MountsStillShow : Type 0
 MountsStillShow =
-    (x : Shown) (commits : List Commit) (m n : ℕ) (c : Checkpoint) → IsImage x → AllNext x commits
+    (x : Shown) (commits : List Commit) (m n : ℕ) (c : Checkpoint) → IsShownImage x → AllNext x commits
     → mounted_on x m ≡ Some n → kept_at n x.table ≡ Some c
     → AllByRecursion (λ (d : Commit). d ≢ GivenBack m) commits → StillShows x (fold applied x commits) m n c

@@ -7,11 +7,11 @@ use Rattle.nl_types.specs.declared.event.Event.TheVariants.{Checkpoint, Expire, 
 use Rattle.nl_types.specs.declared.event.Mode.{Mode}
 use Rattle.nl_types.specs.declared.reply.Answer.TheVariants.{Expired, Removed}
 use Rattle.nl_types.specs.declared.row.Range.{Range}
-use Rattle.nl_types.specs.Laws.{IsJudged}
-use Rattle.nl_types.specs.Lifetimes.{EachAllowed, Forgets, ledger_after_all}
-use Rattle.nl_types.specs.Roots.{Pages}
-use Rattle.nl_types.specs.Worlds.{World, Reply}
-use Rattle.nl_types.specs.Runs.{Run, TakesMemory}
+use Rattle.nl_types.specs.Plain.Laws.{IsJudged}
+use Rattle.nl_types.specs.Blocks.Lifetimes.{EachAllowed, Forgets, ledger_after_all}
+use Rattle.nl_types.specs.Blocks.Roots.{Pages}
+use Rattle.nl_types.specs.Plain.Worlds.{World, Reply}
+use Rattle.nl_types.specs.Plain.Runs.{Run, TakesMemory}
 use Rattle.nl_commit.specs.Volume.{Lists}
 use Rattle.nl_layout.specs.declared.root.Root.{Root}
 use Rattle.nl_vstore.specs.Stores.{KeepsStored}

@@ -10,14 +10,14 @@ use Rattle.nl_types.specs.declared.event.Event.TheVariants as variant
 use Rattle.nl_types.specs.declared.event.Event.TheVariants.{Apply, ChangeMode, Checkpoint, Expire, Mount, Move, RemoveRange, Resize, Retire, Unmount}
 use Rattle.nl_types.specs.declared.geometry.Geometry.{Geometry}
 use Rattle.nl_types.specs.declared.reply.Answer.{Answer}
-use Rattle.nl_types.specs.Calls.{IsReadReply}
-use Rattle.nl_types.specs.Lifetimes.{Numbers, Ledger, IsLedger, KeepsCovered, EndsOnce, Makes, Forgets, ledger_after_all, blank}
-use Rattle.nl_types.specs.Entries.{Place}
-use Rattle.nl_types.specs.Limits.{checkpoint_number_limit, inode_file_number}
-use Rattle.nl_types.specs.Placing.{LacksSpace}
-use Rattle.nl_types.specs.Roots.{Pages, pages_of}
-use Rattle.nl_types.specs.Worlds.{World, Reply}
-use Rattle.nl_types.specs.Runs.{AllowedRefusals, Step, Run, unshared_refusals}
+use Rattle.nl_types.specs.Plain.Calls.{IsReadReply}
+use Rattle.nl_types.specs.Blocks.Lifetimes.{Numbers, Ledger, IsLedger, KeepsCovered, EndsOnce, Makes, Forgets, ledger_after_all, blank}
+use Rattle.nl_types.specs.Blocks.Entries.{Place}
+use Rattle.nl_types.specs.Plain.Limits.{checkpoint_number_limit, inode_file_number}
+use Rattle.nl_types.specs.Blocks.Placing.{LacksSpace}
+use Rattle.nl_types.specs.Blocks.Roots.{Pages, pages_of}
+use Rattle.nl_types.specs.Plain.Worlds.{World, Reply}
+use Rattle.nl_types.specs.Plain.Runs.{AllowedRefusals, Step, Run, unshared_refusals}
 use Rattle.nl_device.specs.Failures.{Failures}
 use Rattle.nl_layout.specs.Root.{root_of}
 use Rattle.nl_layout.specs.declared.root.Root.{Root}

@@ -11,5 +11,4 @@ pub mod Commits
 pub mod Notes
 pub mod Laws
 pub mod CleanerViews
-pub mod Rounds
 pub mod Facts

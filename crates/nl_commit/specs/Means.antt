@@ -3,11 +3,11 @@ use Rattle.std.specs.Prelude.{◌≡◌, ℕ, length, map}
 use Rattle.std.specs.List.{AllZip}
 use Rattle.nl_types.specs.declared.event.Ask.{Ask}
 use Rattle.nl_types.specs.declared.event.Event.{Event}
-use Rattle.nl_types.specs.Calls.{IsReadReply, and_then, reply_to}
-use Rattle.nl_types.specs.Trees.{Tree}
-use Rattle.nl_types.specs.Worlds.{World, Copy, IsWorld, Reply, kept_copy}
-use Rattle.nl_types.specs.Runs.{AllowedRefusals, Step, memory_alone}
-use Rattle.nl_types.specs.Roots.{Pages}
+use Rattle.nl_types.specs.Plain.Calls.{IsReadReply, and_then, reply_to}
+use Rattle.nl_types.specs.Plain.Trees.{Tree}
+use Rattle.nl_types.specs.Plain.Worlds.{World, Copy, IsWorld, Reply, kept_copy}
+use Rattle.nl_types.specs.Plain.Runs.{AllowedRefusals, Step, memory_alone}
+use Rattle.nl_types.specs.Blocks.Roots.{Pages}
 use Rattle.nl_layout.specs.Root.{root_of}
 use Rattle.nl_layout.specs.declared.root.Root.{Root}
 use Rattle.nl_tree.specs.Became.{Current}

@@ -7,14 +7,14 @@ use Rattle.nl_types.specs.declared.event.Event.TheVariants as event
 use Rattle.nl_types.specs.declared.event.Mode.{Mode}
 use Rattle.nl_types.specs.declared.reply.Answer.{Answer}
 use Rattle.nl_types.specs.declared.reply.Answer.TheVariants as answer
-use Rattle.nl_types.specs.Entries.{Birth, period_of}
-use Rattle.nl_types.specs.Worlds.{Reply, is_given_up, is_moving}
+use Rattle.nl_types.specs.Blocks.Entries.{Birth, period_of}
+use Rattle.nl_types.specs.Plain.Worlds.{Reply, is_given_up, is_moving}
 use Rattle.nl_cpfile.specs.Tables.{Table, kept_at}
 use Rattle.nl_cpfile.specs.declared.checkpoint.Checkpoint.{Checkpoint}
 use Rattle.nl_vstore.specs.Batches.{Changes}
 use Rattle.nl_vstore.specs.Located.{numbers_in}
 use Rattle.nl_vstore.specs.Stores.{Numbered, Store}
-use Rattle.nl_commit.specs.Commits.{AllNext, IsImage, applied}
+use Rattle.nl_commit.specs.Commits.{AllNext, IsShownImage, applied}
 use Rattle.nl_commit.specs.Layout.{AllowedBetween, Does, HasWrittenCheckpoint, IsPen, Layout, unshared}
 use Rattle.nl_commit.specs.Shown.{Shown}
 use Rattle.nl_commit.specs.Volume.{Lists, boundary_in}
@@ -190,4 +190,4 @@ DoesNoting old event reply new before after = DoesTelling true old event reply n
 
 -- what readers see of a pen is an image
 abbrev pub PensAreImages : Type 0
-PensAreImages = (l : Layout) → IsPen l → IsImage (shown_of l)
+PensAreImages = (l : Layout) → IsPen l → IsShownImage (shown_of l)

@@ -4,8 +4,8 @@ use Rattle.std.specs.Option.{option_map}
 use Rattle.std.specs.Ordering.{nat_cmp}
 use Rattle.std.specs.FinMap.{find}
 use Rattle.nl_types.specs.declared.period.Period.{Period}
-use Rattle.nl_types.specs.PartialMaps.{Partial}
-use Rattle.nl_types.specs.Roots.{Pages}
+use Rattle.nl_types.specs.Blocks.PartialMaps.{Partial}
+use Rattle.nl_types.specs.Blocks.Roots.{Pages}
 use Rattle.nl_vstore.specs.Periods.{Periods}
 use Rattle.nl_cpfile.specs.Tables.{Table}
 use Rattle.nl_commit.specs.MountTables.{AreGiven}

@@ -1,7 +1,7 @@
 -- What a pen holds in memory.
 use Rattle.std.specs.Prelude.{◌≡◌, ℕ, ◌+◌, ◌-◌, ◌||◌, ◌&&◌, ◌==◌, max, not, if◌then◌else◌, Bool, false, true, List, [], ◌∷◌, ◌++◌, map, Result, Ok, Err}
 use Rattle.std.specs.List.{filter}
-use Rattle.nl_types.specs.Calls.{is_dirtying}
+use Rattle.nl_types.specs.Plain.Calls.{is_dirtying}
 use Rattle.nl_types.specs.declared.error.VolError.{VolError}
 use Rattle.nl_types.specs.declared.error.VolError.TheVariants.{Memory}
 use Rattle.nl_types.specs.declared.event.Change.{Change}
@@ -11,11 +11,11 @@ use Rattle.nl_types.specs.declared.reply.Answer.{Answer}
 use Rattle.nl_types.specs.declared.reply.Answer.TheVariants.{Expired, Removed}
 use Rattle.nl_types.specs.declared.row.Range.{Range}
 use Rattle.nl_types.specs.declared.row.Row.{Row}
-use Rattle.nl_types.specs.CheckpointLaws.{removed_by}
-use Rattle.nl_types.specs.Protection.{boundary}
-use Rattle.nl_types.specs.NumberLists.{is_one_of}
-use Rattle.nl_types.specs.Rows.{kept_row, range_removal}
-use Rattle.nl_types.specs.Worlds.{is_given_up, is_mounted, is_moving}
+use Rattle.nl_types.specs.Plain.CheckpointLaws.{removed_by}
+use Rattle.nl_types.specs.Plain.Protection.{boundary}
+use Rattle.nl_types.specs.Plain.NumberLists.{is_one_of}
+use Rattle.nl_types.specs.Plain.Rows.{kept_row, range_removal}
+use Rattle.nl_types.specs.Plain.Worlds.{is_given_up, is_mounted, is_moving}
 use Rattle.nl_layout.specs.declared.root.Root.{Root}
 use Rattle.nl_cpfile.specs.Tables.{Table, all, checkpoint_root, rows, with_latest_alone, with_mode, with_next, without}
 use Rattle.nl_cpfile.specs.declared.checkpoint.Checkpoint.{Checkpoint}

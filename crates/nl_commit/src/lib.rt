@@ -6,10 +6,8 @@ mod commit;
 mod draft;
 mod mounts;
 mod noting_pen;
-mod round;
 
 pub use commit::{Commit, NewPage, ShownPage, Whole, Written};
 pub use draft::Draft;
 pub use mounts::{Mounted, Mounts};
 pub use noting_pen::NotingPen;
-pub use round::Round;

@@ -5,7 +5,7 @@ ghost use Rattle.std.specs.Ordering.{nat_cmp};
 ghost use Rattle.std.specs.FinMap.{find};
 ghost use Rattle.nl_commit.specs.MountTables.{AreGiven, AreRising};
 ghost use Rattle.nl_commit.specs.Volume.{is_other_mount, mount_of};
-ghost use Rattle.nl_types.specs.Worlds as worlds;
+ghost use Rattle.nl_types.specs.Plain.Worlds as worlds;
 
 use nl_types::{CheckpointNumber, MountNumber};
 use std::alloc::{AllocError, Global};

@@ -2,7 +2,7 @@
 ghost use Rattle.std.specs.Prelude.{◌≡◌, [], ◌∷◌, IfOk, IsOkUnless};
 ghost use Rattle.nl_cpfile.specs.Tables.{cpstat_of};
 ghost use Rattle.nl_commit.specs.CleanerViews.{needed_told};
-ghost use Rattle.nl_commit.specs.Commits.{IsHistory, image_of};
+ghost use Rattle.nl_commit.specs.Commits.{IsHistory, shown_after};
 ghost use Rattle.nl_commit.specs.Layout.{IsPen, ReadsCopy, layout_of};
 ghost use Rattle.nl_commit.specs.Notes.{DoesNoting, shown_of};
 ghost use Rattle.nl_commit.specs.Shown.{MountsRise};
@@ -33,8 +33,8 @@ pub trait NotingPen: Drop {
     /// All that readers see of it, as the commit that begins a history. Refused by `Memory` alone.
     fn whole(&self) -> Result<Commit, VolError>
         ensures begins { IfOk result (λ commit. IsHistory (commit ∷ [])) }
-        ensures image { IfOk result (λ commit. image_of (commit ∷ []) ≡ shown_of (layout self.now)) }
-        ensures mounts { IfOk result (λ commit. MountsRise (image_of (commit ∷ []))) }
+        ensures image { IfOk result (λ commit. shown_after (commit ∷ []) ≡ shown_of (layout self.now)) }
+        ensures mounts { IfOk result (λ commit. MountsRise (shown_after (commit ∷ []))) }
         ensures refused { IsOkUnless result VolError.Memory };
 
     /// Gives all mounts back. It takes no memory.

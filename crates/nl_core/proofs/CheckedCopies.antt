@@ -12,11 +12,11 @@ use Rattle.std.proofs.lemmas.List.Elements.{All-head, All-tail}
 use Rattle.std.proofs.lemmas.List.FromFn.{length-map-range_with_len}
 use Rattle.nl_types.specs.InodeLaws.{AreWithinLimits, LimitedInodesMeanTrees}
 use Rattle.nl_types.specs.Inodes.{Bytes, InodeContent, Link, Records}
-use Rattle.nl_types.specs.Limits.{checkpoint_number_limit, file_limit, first_inode, last_inode, root_inode}
-use Rattle.nl_types.specs.Paths.{Name, is_name, name_cmp, same_name}
-use Rattle.nl_types.specs.Roots.{Pages}
-use Rattle.nl_types.specs.Trees.{IsTree, Tree}
-use Rattle.nl_types.specs.Worlds.{Copy, are_stamps_rising, greatest, numbers}
+use Rattle.nl_types.specs.Plain.Limits.{checkpoint_number_limit, file_limit, first_inode, last_inode, root_inode}
+use Rattle.nl_types.specs.Plain.Paths.{Name, is_name, name_cmp, same_name}
+use Rattle.nl_types.specs.Blocks.Roots.{Pages}
+use Rattle.nl_types.specs.Plain.Trees.{IsTree, Tree}
+use Rattle.nl_types.specs.Plain.Worlds.{Copy, are_stamps_rising, greatest, numbers}
 use Rattle.nl_types.specs.Facts.NumberedLists.{AllBelow, before-is, find-push_same, top-push}
 use Rattle.nl_layout.specs.Root.{root_of}
 use Rattle.nl_dirs.specs.Records.{entry_of}

@@ -4,17 +4,18 @@ use Rattle.std.specs.Prelude.{All, IsSome}
 use Rattle.std.specs.List.{slice_index_or}
 use Rattle.std.specs.Option.{option_map}
 use Rattle.std.proofs.lemmas.List.Elements.{All-cons, All-nil, All-pop}
-use Rattle.nl_types.specs.Entries.{Entry}
-use Rattle.nl_types.specs.Lifetimes.{IsBounded}
-use Rattle.nl_types.specs.Limits.{checkpoint_number_limit}
-use Rattle.nl_types.specs.Roots.{Pages, Root, pages_of}
+use Rattle.nl_types.specs.Blocks.Entries.{Entry}
+use Rattle.nl_types.specs.Blocks.Lifetimes.{IsBounded}
+use Rattle.nl_types.specs.Plain.Limits.{checkpoint_number_limit}
+use Rattle.nl_types.specs.Blocks.Roots.{Pages, Root, pages_of}
 use Rattle.nl_types.specs.Facts.UsedParts.{used_inside}
 use Rattle.nl_layout.specs.Root.{root_of}
 use Rattle.nl_layout.specs.declared.checkpoint_entry.CheckpointEntry.{CheckpointEntry}
 use Rattle.nl_vstore.specs.Stores.{IsStore, KeepsStored, Numbered, Store, block_now, capacity, content_in, entry_now, numbered_in}
 use Rattle.nl_dat.specs.EntryBytes.{NumberHasSpelling, HasSpelling}
 use Rattle.nl_dat.specs.Table.{dat_entry_of, numbers_shown}
-use Rattle.nl_check.specs.Shapes.{At, IsShaped, Itself, StandsAlone}
+use Rattle.nl_check.specs.Shapes.{At, IsShaped, Itself}
+use Rattle.nl_blocktree.specs.FileShapes.{StandsAlone}
 use Rattle.nl_check.specs.Facts.Checkpoints.{sound_checkpoints_are_shaped}
 use Rattle.nl_image.specs.StoreImages.{IsSizedEntry}
 use Rattle.nl_cpfile.specs.Tables.{Table, all, checkpoint_root}

@@ -5,8 +5,8 @@ use Rattle.std.specs.List.{filter}
 use Rattle.std.specs.Ordering.{eq_by_cmp, nat_cmp}
 use Rattle.std.specs.FinMap.{find}
 use Rattle.std.proofs.lemmas.Bool.{eqb-true, ne_eqb}
-use Rattle.nl_types.specs.Entries.{Place}
-use Rattle.nl_types.specs.Roots.{Pages}
+use Rattle.nl_types.specs.Blocks.Entries.{Place}
+use Rattle.nl_types.specs.Blocks.Roots.{Pages}
 use Rattle.nl_cpfile.specs.declared.checkpoint.Checkpoint.{Checkpoint}
 use Rattle.nl_cpfile.specs.Facts.Found.{eq_by_cmp-nat_cmp}
 use Rattle.nl_commit.specs.Commits.{IsNew, KeepsCheckpoint, MountsStillShow, applied}

@@ -11,8 +11,8 @@ use Rattle.nl_types.specs.declared.event.Mode.{Mode}
 use Rattle.nl_types.specs.declared.reply.Answer.{Answer}
 use Rattle.nl_types.specs.declared.reply.Answer.TheVariants as answer
 use Rattle.nl_types.specs.declared.segment.SegmentInfo.{SegmentInfo}
-use Rattle.nl_types.specs.Lifetimes.{CoveredNumbersStay, EachAllowed, EndsOnceSince, KeepsCovered, Ledger, LedgerEvent, NumbersEndOnce, Frees, Forgets, Makes, ledger_after, ledger_after_all}
-use Rattle.nl_types.specs.Worlds.{is_moving}
+use Rattle.nl_types.specs.Blocks.Lifetimes.{CoveredNumbersStay, EachAllowed, EndsOnceSince, KeepsCovered, Ledger, LedgerEvent, NumbersEndOnce, Frees, Forgets, Makes, ledger_after, ledger_after_all}
+use Rattle.nl_types.specs.Plain.Worlds.{is_moving}
 use Rattle.nl_vstore.specs.Located.{needed_in}
 use Rattle.nl_vstore.specs.Stores.{IsMoveRefused, IsStore}
 use Rattle.nl_reclaim.specs.Cleaning.{judged_for}

@@ -5,9 +5,9 @@ use Rattle.std.specs.Option.{option_map}
 use Rattle.std.specs.Ordering.{nat_cmp}
 use Rattle.std.specs.FinMap.{find}
 use Rattle.std.proofs.lemmas.Option.{same_Some}
-use Rattle.nl_types.specs.Roots.{Pages}
-use Rattle.nl_types.specs.Trees.{Tree}
-use Rattle.nl_types.specs.Worlds.{Copy, World, greatest, numbers}
+use Rattle.nl_types.specs.Blocks.Roots.{Pages}
+use Rattle.nl_types.specs.Plain.Trees.{Tree}
+use Rattle.nl_types.specs.Plain.Worlds.{Copy, World, greatest, numbers}
 use Rattle.nl_layout.specs.Root.{fields_of}
 use Rattle.nl_layout.specs.declared.root.RootFields.{RootFields}
 use Rattle.nl_layout.specs.declared.root.Root.TheVariants as variant

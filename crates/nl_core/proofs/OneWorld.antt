@@ -1,10 +1,10 @@
 -- A pen means one world at most.
 use Rattle.std.proofs.Common.{◌≡◌, ℕ, List, [], ◌∷◌, sym, ap, ◌∙◌, refl, subst}
 use Rattle.std.specs.List.{AllZip}
-use Rattle.nl_types.specs.Roots.{Pages}
-use Rattle.nl_types.specs.Trees.{Tree}
+use Rattle.nl_types.specs.Blocks.Roots.{Pages}
+use Rattle.nl_types.specs.Plain.Trees.{Tree}
 use Rattle.nl_types.specs.Inodes.{MeansTree}
-use Rattle.nl_types.specs.Worlds.{Copy}
+use Rattle.nl_types.specs.Plain.Worlds.{Copy}
 use Rattle.nl_types.specs.Facts.Inodes.Means.{inodes_mean_one_tree}
 use Rattle.nl_layout.specs.Root.{root_of}
 use Rattle.nl_layout.specs.declared.root.Root.{Root}

@@ -7,13 +7,13 @@ use Rattle.std.specs.Ordering.{nat_cmp, eq_by_cmp}
 use Rattle.std.specs.FinMap.{find}
 use Rattle.std.proofs.lemmas.Bool.{eq-eqb, eqb-true}
 use Rattle.std.proofs.lemmas.List.Elements.{All-from_recursion, All-push, All-weaker, recursion_from_All}
-use Rattle.nl_types.specs.Entries.{Content}
+use Rattle.nl_types.specs.Blocks.Entries.{Content}
 use Rattle.nl_types.specs.InodeLaws.{LimitedInodesMeanTrees}
 use Rattle.nl_types.specs.Inodes.{MeansTree}
-use Rattle.nl_types.specs.Lifetimes.{IsExact, IsLedger, Numbers}
-use Rattle.nl_types.specs.NumberLists.{is_one_of}
-use Rattle.nl_types.specs.Roots.{pages_of}
-use Rattle.nl_types.specs.Worlds.{Copy, IsWorld, World, copy_at, latest}
+use Rattle.nl_types.specs.Blocks.Lifetimes.{IsExact, IsLedger, Numbers}
+use Rattle.nl_types.specs.Plain.NumberLists.{is_one_of}
+use Rattle.nl_types.specs.Blocks.Roots.{pages_of}
+use Rattle.nl_types.specs.Plain.Worlds.{Copy, IsWorld, World, copy_at, latest}
 use Rattle.nl_layout.specs.Root.{root_of}
 use Rattle.nl_vstore.specs.Stores.{content_in}
 use Rattle.nl_tree.specs.Became.{Became, holding_over}

@@ -4,10 +4,10 @@ use Rattle.std.specs.Prelude.{All}
 use Rattle.std.specs.List.{AllZip}
 use Rattle.std.specs.Option.{option_and_then, option_map, option_map_or}
 use Rattle.std.proofs.Math.ListN.{get_or-map}
-use Rattle.nl_types.specs.Entries.{Entry, period_of}
-use Rattle.nl_types.specs.Lifetimes.{IsBounded}
-use Rattle.nl_types.specs.Roots.{Pages, pages_of}
-use Rattle.nl_types.specs.Segments.{IsUsed}
+use Rattle.nl_types.specs.Blocks.Entries.{Entry, period_of}
+use Rattle.nl_types.specs.Blocks.Lifetimes.{IsBounded}
+use Rattle.nl_types.specs.Blocks.Roots.{Pages, pages_of}
+use Rattle.nl_types.specs.Blocks.Segments.{IsUsed}
 use Rattle.nl_layout.specs.declared.checkpoint_entry.CheckpointEntry.{CheckpointEntry}
 use Rattle.nl_vstore.specs.Periods.{Periods, periods_of}
 use Rattle.nl_vstore.specs.Stores.{IsStore, Numbered, Store, content_in, entry_now, numbered_in}

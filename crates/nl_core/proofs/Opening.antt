@@ -6,12 +6,12 @@ use Rattle.std.specs.Option.{option_map}
 use Rattle.std.proofs.Math.ListN.{get_or-map}
 use Rattle.std.proofs.lemmas.Bool.{le-leb}
 use Rattle.std.proofs.lemmas.List.Elements.{All-cons, All-head, All-nil, All-tail, recursion_from_All}
-use Rattle.nl_types.specs.Entries.{Content, Entry}
-use Rattle.nl_types.specs.Lifetimes.{IsBounded}
-use Rattle.nl_types.specs.RootChanges.{IsSound}
-use Rattle.nl_types.specs.Roots.{Pages, Root, pages_of, place_at}
-use Rattle.nl_types.specs.Roots as roots
-use Rattle.nl_types.specs.Segments.{Segments}
+use Rattle.nl_types.specs.Blocks.Entries.{Content, Entry}
+use Rattle.nl_types.specs.Blocks.Lifetimes.{IsBounded}
+use Rattle.nl_types.specs.Blocks.RootChanges.{IsSound}
+use Rattle.nl_types.specs.Blocks.Roots.{Pages, Root, pages_of, place_at}
+use Rattle.nl_types.specs.Blocks.Roots as roots
+use Rattle.nl_types.specs.Blocks.Segments.{Segments}
 use Rattle.nl_layout.specs.Root.{fields_of, root_of, root_told}
 use Rattle.nl_layout.specs.declared.checkpoint_entry.CheckpointEntry.{CheckpointEntry}
 use Rattle.nl_layout.specs.declared.root.Root as layout

@@ -4,8 +4,8 @@ use Rattle.std.specs.List.{AllZip}
 use Rattle.std.specs.Option.{option_map}
 use Rattle.std.proofs.lemmas.List.{drop-map, length-drop, length-take-le}
 use Rattle.std.proofs.lemmas.List.Elements.{All-head, All-tail}
-use Rattle.nl_types.specs.Roots.{Pages, Root, pages_of}
-use Rattle.nl_types.specs.Segments.{IsUsed, Segments, total_blocks}
+use Rattle.nl_types.specs.Blocks.Roots.{Pages, Root, pages_of}
+use Rattle.nl_types.specs.Blocks.Segments.{IsUsed, Segments, total_blocks}
 use Rattle.nl_layout.specs.declared.checkpoint_entry.CheckpointEntry.{CheckpointEntry}
 use Rattle.nl_space.specs.Images as blocks
 use Rattle.nl_space.specs.Images.{AreBlocksOf, IsPageOf}
@@ -15,7 +15,7 @@ use Rattle.nl_dat.specs.declared.entries.DatEntry.{DatEntry}
 use Rattle.nl_dat.specs.Table.{dat_entry_of, numbers_shown}
 use Rattle.nl_check.specs.Conditions.{AreTrees, IsSoundTree}
 use Rattle.nl_check.specs.Judging.{told}
-use Rattle.nl_check.specs.Trees.{IsSizeOf}
+use Rattle.nl_blocktree.specs.FileShapes.{IsSizeOf}
 use Rattle.nl_cpfile.specs.Images.{IsEntryOf}
 use Rattle.nl_cpfile.specs.Tables.{Table, all}
 use Rattle.nl_cpfile.specs.declared.checkpoint.Checkpoint.{Checkpoint}

@@ -3,8 +3,8 @@ use Rattle.std.proofs.Common.{◌≡◌, ◌∙◌, ℕ, List, length, Option, N
 use Rattle.std.specs.Option.{option_map}
 use Rattle.std.proofs.lemmas.Bool.{cases_lt}
 use Rattle.std.proofs.lemmas.List.{get_or_past}
-use Rattle.nl_types.specs.Entries.{number_of}
-use Rattle.nl_types.specs.Segments.{Segments, total_blocks}
+use Rattle.nl_types.specs.Blocks.Entries.{number_of}
+use Rattle.nl_types.specs.Blocks.Segments.{Segments, total_blocks}
 use Rattle.nl_device.specs.Failures.{Failures}
 use Rattle.nl_space.specs.Content.{HeldPayload, Payload, SpaceContent}
 use Rattle.nl_vstore.specs.Batches.{birth_of_item, number_of_payload}

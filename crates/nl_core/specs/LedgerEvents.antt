@@ -3,9 +3,9 @@ use Rattle.std.specs.Prelude.{◌≡◌, if◌then◌else◌, List, [], ◌∷�
 use Rattle.nl_types.specs.declared.event.Event.{Event}
 use Rattle.nl_types.specs.declared.event.Event.TheVariants as event
 use Rattle.nl_types.specs.declared.reply.Answer.{Answer}
-use Rattle.nl_types.specs.Lifetimes.{EachAllowed, EndsOnceSince, KeepsCovered, Ledger, LedgerEvent, Frees, Forgets, Makes, ledger_after_all}
-use Rattle.nl_types.specs.Runs.{Run}
-use Rattle.nl_types.specs.Worlds.{Reply, is_moving}
+use Rattle.nl_types.specs.Blocks.Lifetimes.{EachAllowed, EndsOnceSince, KeepsCovered, Ledger, LedgerEvent, Frees, Forgets, Makes, ledger_after_all}
+use Rattle.nl_types.specs.Plain.Runs.{Run}
+use Rattle.nl_types.specs.Plain.Worlds.{Reply, is_moving}
 use Rattle.nl_reclaim.specs.Reclaims.{stood_in}
 use Rattle.nl_commit.specs.Layout.{AllowedBetween, Does, HasDone, IsPen, Layout, Becomes, ledger_of}
 use Rattle.nl_events.specs.NeededBlocks.{taken_out}

@@ -1,11 +1,11 @@
 -- What is opened of an image, and what it has to be for a pen.
 use Rattle.std.specs.Prelude.{◌≡◌, ◌⊎◌, ℕ, ◌+◌, ◌≤◌, List, [], false, All, Option, Some}
-use Rattle.nl_types.specs.Limits.{first_inode}
+use Rattle.nl_types.specs.Plain.Limits.{first_inode}
 use Rattle.nl_types.specs.declared.error.VolError.{VolError}
 use Rattle.nl_types.specs.declared.error.VolError.TheVariants.{Fault}
-use Rattle.nl_types.specs.Entries.{Content}
-use Rattle.nl_types.specs.Lifetimes.{IsBounded}
-use Rattle.nl_types.specs.Segments.{Segments}
+use Rattle.nl_types.specs.Blocks.Entries.{Content}
+use Rattle.nl_types.specs.Blocks.Lifetimes.{IsBounded}
+use Rattle.nl_types.specs.Blocks.Segments.{Segments}
 use Rattle.nl_layout.specs.Root.{root_of}
 use Rattle.nl_vstore.specs.Stores.{IsStore, Store, content_in, device_in, payload_in}
 use Rattle.nl_segwriter.specs.declared.images.Restored.{Restored}

@@ -1,6 +1,6 @@
 -- What the image of a pen is.
 use Rattle.std.specs.Prelude.{◌≡◌, ℕ, List, [], false}
-use Rattle.nl_types.specs.Worlds.{World}
+use Rattle.nl_types.specs.Plain.Worlds.{World}
 use Rattle.nl_image.specs.Conditions.{IsImage}
 use Rattle.nl_image.specs.StoreImages.{IsImageOf, parts_of}
 use Rattle.nl_commit.specs.Layout.{IsPen, Layout, MeansWorld}

@@ -1,9 +1,9 @@
 -- Files that are one in two checkpoints of a pen.
 use Rattle.std.specs.Prelude.{◌≡◌, ℕ, List, Some}
 use Rattle.nl_types.specs.declared.reply.Node.TheVariants.{File}
-use Rattle.nl_types.specs.Paths.{Path}
-use Rattle.nl_types.specs.Trees.{lookup}
-use Rattle.nl_types.specs.Worlds.{World, Copy, copy_at}
+use Rattle.nl_types.specs.Plain.Paths.{Path}
+use Rattle.nl_types.specs.Plain.Trees.{lookup}
+use Rattle.nl_types.specs.Plain.Worlds.{World, Copy, copy_at}
 use Rattle.nl_commit.specs.Layout.{Layout, MeansWorld, layout_pages}
 use Rattle.nl_events.specs.SameFiles.{IsOneInode}
 

@@ -1,6 +1,6 @@
 -- Trees that are one in two checkpoints of a pen.
 use Rattle.std.specs.Prelude.{◌≡◌, ℕ, Some}
-use Rattle.nl_types.specs.Worlds.{World, Copy, copy_at}
+use Rattle.nl_types.specs.Plain.Worlds.{World, Copy, copy_at}
 use Rattle.nl_commit.specs.Layout.{Layout, MeansWorld}
 use Rattle.nl_events.specs.SameTrees.{IsOneRoot}
 

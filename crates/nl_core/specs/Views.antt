@@ -1,8 +1,8 @@
 -- What is told of a world.
 use Rattle.std.specs.Prelude.{length}
 use Rattle.std.specs.List.{filter}
-use Rattle.nl_types.specs.Rows.{is_snapshot}
-use Rattle.nl_types.specs.Worlds.{World, latest}
+use Rattle.nl_types.specs.Plain.Rows.{is_snapshot}
+use Rattle.nl_types.specs.Plain.Worlds.{World, latest}
 use Rattle.nl_cpfile.specs.declared.table.Cpstat.{Cpstat}
 
 -- how many copies it keeps, and how many of them are snapshots

@@ -1,7 +1,7 @@
 //! The image of a volume that is closed.
 ghost use Rattle.std.specs.Prelude.{◌≡◌, ◌<◌, ◌≤◌, IfErr, IfOk, IsErrOf};
 ghost use Rattle.nl_types.specs.declared.error.VolError;
-ghost use Rattle.nl_types.specs.Roots.{pages_of};
+ghost use Rattle.nl_types.specs.Blocks.Roots.{pages_of};
 ghost use Rattle.nl_space.specs.Appended.{IsLoadError};
 ghost use Rattle.nl_vstore.specs.Stores.{KeepsStored, content_in};
 ghost use Rattle.nl_cpfile.specs.Tables as tables;
@@ -10,7 +10,7 @@ ghost use Rattle.nl_core.specs.Private.Closed.{AreSized, HasSize, HaveSizes};
 ghost use Rattle.nl_core.specs.PenImages.{IsPenImage};
 
 use nl_check::size_of_blocks;
-use nl_counts::laws::counts_stay;
+use nl_counts::laws;
 use nl_cpfile::{Checkpoint, Checkpoints};
 use nl_dat::Dat;
 use nl_events::Parts;
@@ -88,7 +88,7 @@ pub fn image_of<S: Space>(parts: &mut Parts<Dat<S>>) -> Result<Vec<u8>, VolError
         → parts.old.store.failures < parts.new.store.failures }
     ensures errors { IfErr result IsLoadError }
 {
-    counts_stay();
+    laws::counts_stay();
     let entries = all_entries(parts.alloc, &parts.store, parts.tables.checkpoints())?;
     let image = write_image(parts.alloc, &mut parts.store, entries.as_slice())?;
     Ok(image)

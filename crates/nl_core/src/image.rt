@@ -1,6 +1,6 @@
 //! Volumes opened of images.
 ghost use Rattle.std.specs.Prelude.{◌≡◌, ◌⊎◌, IfErr, IfOk, OnErr, List, ℕ, length};
-ghost use Rattle.nl_types.specs.Segments.{HaveLogs, total_blocks};
+ghost use Rattle.nl_types.specs.Blocks.Segments.{HaveLogs, total_blocks};
 ghost use Rattle.nl_segwriter.specs.Images.{HoldLogs, page_in};
 ghost use Rattle.nl_segwriter.specs.Images as spaces;
 ghost use Rattle.nl_dat.specs.Images.{IsTableOver};
@@ -11,14 +11,12 @@ ghost use Rattle.nl_commit.specs.Layout.{IsPen};
 ghost use Rattle.nl_core.specs.Opened.{IsAtRest, IsOpenRefusal, IsRestoredStore};
 ghost use Rattle.nl_core.specs.PenImages.{IsPenImage};
 
-use crate::laws::{checked_checkpoints_have_inodes, opened_images_are_pens};
 use crate::pen::Pen;
 use nl_counts::NeededCounts;
 use nl_cpfile::Checkpoints;
 use nl_dat::{Dat, DatEntry};
 use nl_device::Device;
 use nl_events::Tables;
-use nl_image::laws::images_are_spelled;
 use nl_image::{ReadImage, read_image};
 use nl_segwriter::{LogSpace, Restored};
 use nl_sufile::SegTable;
@@ -56,9 +54,9 @@ fn open_read<D: Device>(alloc: Global, read: ReadImage, device: D) -> Result<Pen
     ensures refused { IfErr result (λ e. (e ≡ VolError.Fault) ⊎ (e ≡ VolError.Memory)) }
 {
     // Of the latest one's inodes one is the root's.
-    checked_checkpoints_have_inodes();
-    images_are_spelled();
-    opened_images_are_pens();
+    crate::laws::checked_checkpoints_have_inodes();
+    nl_image::laws::images_are_spelled();
+    crate::laws::opened_images_are_pens();
     let ReadImage {
         segments,
         kept,

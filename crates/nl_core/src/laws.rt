@@ -9,13 +9,6 @@ ghost use Rattle.nl_core.specs.PenImages.{ImagesMeanOneWorld, PenImagesAreImages
 ghost use Rattle.nl_core.specs.Opened.{CheckedCheckpointsHaveInodes, OpenedImagesArePens};
 ghost use Rattle.nl_commit.specs.Laws.{MeansOneWorld, EventsLeadOn, RunsLeadOn, FailedWritesAreTold, RefusalsKeepPens, RefusalsHaveReasons, NoSpaceIsSaid, NoSpaceIsTrue, MemoryIsTaken, RangesGoOneByOne, ExpiriesGoOneByOne, SettlingsAreAlike};
 
-use nl_check::laws::{checked_checkpoints_are_sound, sound_checkpoints_meet_all};
-use nl_image::laws::{
-    images_have_one_list_of_parts, store_images_are_images, store_images_tell_the_store,
-};
-use nl_types::inode_laws::limited_inodes_mean_trees;
-use nl_types::laws::{covered_numbers_stay, numbers_end_once};
-
 /// A pen means one world at most.
 pub fn pens_mean_one_world()
     ensures { MeansOneWorld }
@@ -105,8 +98,8 @@ pub fn events_are_ledger_events()
 pub fn runs_keep_numbers()
     ensures { (told : Bool) → RunsKeepNumbers (allowed_where told) }
 {
-    covered_numbers_stay();
-    numbers_end_once();
+    nl_types::laws::covered_numbers_stay();
+    nl_types::laws::numbers_end_once();
 }
 
 /// What readers see of a pen is an image: every kept checkpoint stands for a tree, and every mount is one of
@@ -129,16 +122,16 @@ pub fn mounts_still_show()
 pub fn opened_images_are_pens()
     ensures { OpenedImagesArePens }
 {
-    checked_checkpoints_are_sound();
-    limited_inodes_mean_trees();
+    nl_check::laws::checked_checkpoints_are_sound();
+    nl_types::inode_laws::limited_inodes_mean_trees();
 }
 
 /// A checkpoint that was checked has an inode in use, the root's: so its paths beside the root are one fewer.
 pub fn checked_checkpoints_have_inodes()
     ensures { CheckedCheckpointsHaveInodes }
 {
-    checked_checkpoints_are_sound();
-    limited_inodes_mean_trees();
+    nl_check::laws::checked_checkpoints_are_sound();
+    nl_types::inode_laws::limited_inodes_mean_trees();
 }
 
 /// The image of a pen meets all conditions of one, and a pen has no other image.
@@ -146,9 +139,9 @@ pub fn pens_have_one_image()
     ensures image { PenImagesAreImages }
     ensures one { PensHaveOneImage }
 {
-    sound_checkpoints_meet_all();
-    store_images_are_images();
-    store_images_tell_the_store();
+    nl_check::laws::sound_checkpoints_meet_all();
+    nl_image::laws::store_images_are_images();
+    nl_image::laws::store_images_tell_the_store();
 }
 
 /// Pens of one image, of which nothing is dirty or mounted, mean one world, but for how many mount numbers
@@ -156,8 +149,8 @@ pub fn pens_have_one_image()
 pub fn pens_of_one_image_mean_one_world()
     ensures { ImagesMeanOneWorld }
 {
-    sound_checkpoints_meet_all();
-    store_images_are_images();
-    store_images_tell_the_store();
-    images_have_one_list_of_parts();
+    nl_check::laws::sound_checkpoints_meet_all();
+    nl_image::laws::store_images_are_images();
+    nl_image::laws::store_images_tell_the_store();
+    nl_image::laws::images_have_one_list_of_parts();
 }

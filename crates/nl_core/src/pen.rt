@@ -1,10 +1,10 @@
 //! The pen: what the writer of a volume holds, the device included.
 ghost use Rattle.std.specs.Prelude.{◌≡◌, ◌↔◌, ◌⊎◌, ◌<◌, ◌≤◌, ◌∷◌, [], IfErr, IfOk, IsErr, IsErrOf, IsTrue, OnErr, IsOkUnless, length};
 ghost use Rattle.std.specs.Option.{option_map};
-ghost use Rattle.nl_types.specs.Runs.{Run};
-ghost use Rattle.nl_types.specs.Rows.{kept_row};
-ghost use Rattle.nl_types.specs.Worlds as worlds;
-ghost use Rattle.nl_types.specs.Worlds.{World, formatted};
+ghost use Rattle.nl_types.specs.Plain.Runs.{Run};
+ghost use Rattle.nl_types.specs.Plain.Rows.{kept_row};
+ghost use Rattle.nl_types.specs.Plain.Worlds as worlds;
+ghost use Rattle.nl_types.specs.Plain.Worlds.{World, formatted};
 ghost use Rattle.nl_cpfile.specs.Tables as cpfile;
 ghost use Rattle.nl_core.specs.Views.{counted};
 ghost use Rattle.nl_dat.specs.Described.{descs_of};
@@ -14,7 +14,7 @@ ghost use Rattle.nl_vstore.specs.Summaries.{payload_row};
 ghost use Rattle.nl_vstore.specs.Located.{needed_count, payload_count_in};
 ghost use Rattle.nl_commit.specs.CleaningEvents.{needed_by};
 ghost use Rattle.nl_commit.specs.CleanerViews.{cleaning_event, counts_after, needed_after, needed_told};
-ghost use Rattle.nl_commit.specs.Commits.{IsHistory, image_of};
+ghost use Rattle.nl_commit.specs.Commits.{IsHistory, shown_after};
 ghost use Rattle.nl_commit.specs.Shown.{MountsRise};
 ghost use Rattle.nl_commit.specs.Notes.{DoesNoting, shown_of};
 ghost use Rattle.nl_commit.specs.Volume.{boundary_in, without_mounts};
@@ -29,8 +29,8 @@ use nl_protect::boundary;
 use nl_segwriter::LogSpace;
 use nl_sufile::{SegTable, SegmentCounts};
 use nl_types::{
-    Ask, CheckpointNumber, Event, Geometry, Items, MAX_PAYLOAD, Reply, Row, Segment, VirtualNumber,
-    VolError,
+    Ask, CheckpointNumber, Event, Geometry, Items, MAX_PAYLOAD, Moment, Reply, Row, Segment,
+    VirtualNumber, VolError,
 };
 use nl_vstore::Vstore;
 use std::alloc::Global;
@@ -204,7 +204,7 @@ impl<D: Device> Pen<D> {
     }
 
     /// The boundary of protection: plain checkpoints below it may go.
-    pub fn boundary(&self, now: u64, period: u64) -> CheckpointNumber
+    pub fn boundary(&self, now: Moment, period: u64) -> CheckpointNumber
         ensures layout { result ≡ boundary_in self.now.lists.table now period }
         ensures low { result ≤ self.now.lists.table.latest.number }
         ensures world { (w : World) → MeansWorld self.now w → result ≡ worlds.boundary_of w now period }
@@ -298,8 +298,8 @@ impl<D: Device> Pen<D> {
     /// alone.
     pub fn whole(&self) -> Result<Commit, VolError>
         ensures begins { IfOk result (λ commit. IsHistory (commit ∷ [])) }
-        ensures image { IfOk result (λ commit. image_of (commit ∷ []) ≡ shown_of self.now) }
-        ensures mounts { IfOk result (λ commit. MountsRise (image_of (commit ∷ []))) }
+        ensures image { IfOk result (λ commit. shown_after (commit ∷ []) ≡ shown_of self.now) }
+        ensures mounts { IfOk result (λ commit. MountsRise (shown_after (commit ∷ []))) }
         ensures refused { IsOkUnless result VolError.Memory }
     {
         self.parts.means_a_world();

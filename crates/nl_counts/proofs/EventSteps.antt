@@ -1,22 +1,21 @@
 -- What each call of an event needs, and what it leaves.
-use Rattle.std.proofs.Common.{◌≡◌, ℕ, ◌<◌, ◌≤◌, Bool, List, [], ◌∷◌, ◌++◌, ◌⊎◌, inl, inr, length, map, Some, sym, refl, ap, subst, ◌∙◌}
+use Rattle.std.proofs.Common.{◌≡◌, ℕ, ◌<◌, ◌≤◌, List, [], ◌∷◌, ◌++◌, ◌⊎◌, inl, inr, length, map, Some, sym, refl, ap, subst, ◌∙◌}
 use Rattle.std.specs.List.Sorted.{IsNonDecreasingBy, IsPermutation}
 use Rattle.std.specs.Prelude.{OnErr, OnOk, Result, Ok, Err}
-use Rattle.nl_types.specs.declared.period.Period.{Period}
-use Rattle.nl_types.specs.PartialMaps.{Partial}
-use Rattle.nl_types.specs.Entries.{Entry, is_needed, period_of}
-use Rattle.nl_types.specs.Lifetimes.{WritesAreByNumber}
-use Rattle.nl_types.specs.NeedLaws.{AreGone, CheckpointsKeepNeeds}
+use Rattle.nl_types.specs.Blocks.PartialMaps.{Partial}
+use Rattle.nl_types.specs.Blocks.Entries.{Entry, is_needed}
+use Rattle.nl_types.specs.Blocks.Lifetimes.{WritesAreByNumber}
+use Rattle.nl_types.specs.Blocks.NeedLaws.{AreGone, CheckpointsKeepNeeds}
 use Rattle.nl_space.specs.Content.{Payload}
 use Rattle.nl_vstore.specs.Batches.{Changes, births_of, number_of_payload}
 use Rattle.nl_vstore.specs.Counts.{NeededAreStanding, needed_counts, needed_places}
-use Rattle.nl_vstore.specs.Located.{by_period, entry_needed, needs}
+use Rattle.nl_vstore.specs.Located.{entry_needed, needs}
 use Rattle.nl_vstore.specs.Stores.{IsStore, Store, address_in, capacity, content_in}
 use Rattle.nl_counts.specs.declared.ends.Ended.{Ended}
 use Rattle.nl_counts.specs.Private.Adding.{GetBlocks, LeaveSegment, mixed}
 use Rattle.nl_counts.specs.Counted.{AreEnds, Counted, IsCounted}
 use Rattle.nl_counts.specs.EndLists.{IsRun, RoomyEnds, end_at, end_of, noted_ends, swept}
-use Rattle.nl_counts.specs.Events.{HasMovedNeeded, IsLatest, IsNextWritten, TellsNeeds}
+use Rattle.nl_counts.specs.Events.{HasMovedNeeded, IsLatest, IsNextWritten}
 use Rattle.nl_counts.specs.Private.Listed.{AreListed, HasLetGoAll}
 use Rattle.nl_counts.specs.Private.Places.{AreCountsIn}
 use Rattle.nl_counts.specs.Private.Walked.{AreFound, HasWalked}
@@ -106,10 +105,9 @@ module _ (standing : NeededAreStanding) (segment : ℕ) (numbers : List ℕ) (ne
 
 -- ---- removals
 
-told : (s : Store) (test : Period → Bool) (stay : List ℕ) → TellsNeeds test stay → (v : ℕ) (e : Entry)
-    → content_in s v ≡ Some e
-    → needs (by_period test) (content_in s) v ≡ is_needed stay e
-told s test stay tells v e at = ap (entry_needed (by_period test)) at ∙ tells (period_of e)
+told : (s : Store) (stay : List ℕ) (v : ℕ) (e : Entry) → content_in s v ≡ Some e
+    → needs (is_needed stay) (content_in s) v ≡ is_needed stay e
+told s stay v e at = ap (entry_needed (is_needed stay)) at
 
 module _ (standing : NeededAreStanding) (s : Store) (store : IsStore s) where
   pub is-listed : (kept : List ℕ) (c : Counted) → IsCounted s kept c → AreListed s c.counts c.ends
@@ -117,59 +115,49 @@ module _ (standing : NeededAreStanding) (s : Store) (store : IsStore s) where
       listed-from s (is_needed kept)
       (live-needed kept) c.ends counted.ends standing store c.counts counted.counts
 
-  module _ (lets : LetsGo) (test : Period → Bool) (first next from to : ℕ) (c : Counted)
+  module _ (lets : LetsGo) (stay : List ℕ) (first next from to : ℕ) (c : Counted)
       (run : IsRun first next from to c.ends) (left : List Ended) (counts : List ℕ)
       (listed : AreListed s counts left)
-      (gone : HasLetGoAll (needs (by_period test) (content_in s)) from to c.ends left) where
-    ends-now : (kept stay : List ℕ) → IsCounted s kept c → AreGone first next kept stay → TellsNeeds test stay
+      (gone : HasLetGoAll (needs (is_needed stay) (content_in s)) from to c.ends left) where
+    ends-now : (kept : List ℕ) → IsCounted s kept c → AreGone first next kept stay
         → AreEnds (content_in s) (is_needed stay) left
-    ends-now kept stay counted removed tells =
+    ends-now kept counted removed =
         ends-left lets (content_in s)
-        (needs (by_period test) (content_in s)) first next from to kept stay c.ends left removed
-        (told s test stay tells) run counted.ends gone
+        (needs (is_needed stay) (content_in s)) first next from to kept stay c.ends left removed
+        (told s stay) run counted.ends gone
 
-    pub after-removal : (kept stay : List ℕ) → IsCounted s kept c → AreGone first next kept stay
-        → TellsNeeds test stay → counts ≡ needed_counts s (is_needed stay)
-    after-removal kept stay counted removed tells =
+    pub after-removal : (kept : List ℕ) → IsCounted s kept c → AreGone first next kept stay
+        → counts ≡ needed_counts s (is_needed stay)
+    after-removal kept counted removed =
         counts-from s (is_needed stay) (live-needed stay) left
-        (ends-now kept stay counted removed tells) standing store counts listed.counts
+        (ends-now kept counted removed) standing store counts listed.counts
 
-    pub after-removed : (room : ℕ) (kept stay : List ℕ) → IsCounted s kept c → AreGone first next kept stay
-        → TellsNeeds test stay
+    pub after-removed : (room : ℕ) (kept : List ℕ) → IsCounted s kept c → AreGone first next kept stay
         → IsCounted s stay (record { counts = counts; ends = left; room = room })
-    after-removed room kept stay counted removed tells = record {
-      counts = after-removal kept stay counted removed tells;
-      ends = ends-now kept stay counted removed tells;
+    after-removed room kept counted removed = record {
+      counts = after-removal kept counted removed;
+      ends = ends-now kept counted removed;
       below =
           below-left lets (content_in s)
-          (needs (by_period test) (content_in s)) first next from to kept stay c.ends left removed
-          (told s test stay tells) run counted.ends gone counted.below;
+          (needs (is_needed stay) (content_in s)) first next from to kept stay c.ends left removed
+          (told s stay) run counted.ends gone counted.below;
     }
 
   -- ---- a walk
 
-  pub after-walk : (test : Period → Bool) (counts : List ℕ) (found ends : List Ended)
-      → HasWalked s (by_period test) (capacity s) counts found
-      → IsNonDecreasingBy end_of ends → IsPermutation found ends → (room latest : ℕ) (kept : List ℕ)
-      → TellsNeeds test kept → IsLatest latest kept s
+  pub after-walk : (kept counts : List ℕ) (found ends : List Ended)
+      → HasWalked s (is_needed kept) (capacity s) counts found
+      → IsNonDecreasingBy end_of ends → IsPermutation found ends → (room latest : ℕ)
+      → IsLatest latest kept s
       → IsCounted s kept (record { counts = counts; ends = ends; room = room })
-  after-walk test counts found ends walked rising same room latest kept tells last = record {
-    counts =
-        walked-is-counted s (by_period test) store standing counts found walked
-        ∙ ap (needed_counts s) as-needed;
-    ends = are;
+  after-walk kept counts found ends walked rising same room latest last = record {
+    counts = walked-is-counted s (is_needed kept) store standing counts found walked;
+    ends = found-are-ends s (is_needed kept) ends store rising in-order;
     below = λ k low. (latest, last.there, low-end k low);
   }
     where
-      in-order : AreFound (content_in s) (by_period test) (capacity s) ends
-      in-order = found-in-order (content_in s) (by_period test) (capacity s) found ends same walked.found
-
-      as-needed : by_period test ≡ is_needed kept
-      as-needed = λ i. λ e. tells (period_of e) i
-
-      are : AreEnds (content_in s) (is_needed kept) ends
-      are = subst (λ (needed : Entry → Bool). AreEnds (content_in s) needed ends) as-needed
-          (found-are-ends s (by_period test) ends store rising in-order)
+      in-order : AreFound (content_in s) (is_needed kept) (capacity s) ends
+      in-order = found-in-order (content_in s) (is_needed kept) (capacity s) found ends same walked.found
 
       low-end : (k : ℕ) → k < length ends → (end_at ends k).end ≤ latest
       low-end k low =

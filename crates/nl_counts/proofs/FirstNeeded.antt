@@ -2,7 +2,7 @@
 use Rattle.std.proofs.Common.{◌≡◌, ℕ, zero, suc, ◌<◌, true, false, eqb, get_or, take, List, [], ◌∷◌, length, inl, inr, sym, refl, ap, ◌∙◌, arith}
 use Rattle.std.specs.Prelude.{◌||◌}
 use Rattle.std.proofs.lemmas.Bool.{cases_Bool, eq-eqb, or_left, or_right}
-use Rattle.nl_types.specs.NumberLists.{NoneTwice, is_one_of}
+use Rattle.nl_types.specs.Plain.NumberLists.{NoneTwice, is_one_of}
 use Rattle.nl_vstore.specs.Counts.{NeededStandOnce, StandOnce}
 use Rattle.nl_vstore.specs.Located.{needed_in}
 use Rattle.nl_counts.specs.Laws.{FirstNeededStandThere}

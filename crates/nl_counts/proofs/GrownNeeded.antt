@@ -8,9 +8,9 @@ use Rattle.std.proofs.lemmas.Bool.Decides.{nat_tests}
 use Rattle.std.proofs.lemmas.List.{length-append, length-replicate}
 use Rattle.nl_types.specs.declared.error.VolError.{VolError}
 use Rattle.nl_types.specs.declared.error.VolError.TheVariants as error
-use Rattle.nl_types.specs.PartialMaps.{Partial}
-use Rattle.nl_types.specs.Entries.{Entry, is_needed}
-use Rattle.nl_types.specs.Segments.{Segments, clean_info, total_blocks}
+use Rattle.nl_types.specs.Blocks.PartialMaps.{Partial}
+use Rattle.nl_types.specs.Blocks.Entries.{Entry, is_needed}
+use Rattle.nl_types.specs.Blocks.Segments.{Segments, clean_info, total_blocks}
 use Rattle.nl_types.specs.Facts.UsedParts.{used_inside}
 use Rattle.nl_sufile.specs.BySegment.{AreCounts, GrownAreCounted, grown_counts, lies_in}
 use Rattle.nl_vstore.specs.Counts.{NeededAreStanding, needed_counts, needed_places}

@@ -4,8 +4,8 @@ use Rattle.std.specs.Prelude.{◌||◌, is_none}
 use Rattle.std.specs.Option.{option_map}
 use Rattle.std.proofs.lemmas.Grind.{same_number_lists}
 use Rattle.std.proofs.lemmas.List.FromFn.{get_or-map-range_with_len, length-map-range_with_len}
-use Rattle.nl_types.specs.PartialMaps.{Partial}
-use Rattle.nl_types.specs.Entries.{Entry}
+use Rattle.nl_types.specs.Blocks.PartialMaps.{Partial}
+use Rattle.nl_types.specs.Blocks.Entries.{Entry}
 use Rattle.nl_sufile.specs.BySegment as by_segment
 use Rattle.nl_vstore.specs.Batches.{is_live}
 use Rattle.nl_vstore.specs.Counts.{NeededAreStanding, needed_counts, needed_places}

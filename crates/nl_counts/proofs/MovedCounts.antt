@@ -3,10 +3,10 @@ use Rattle.std.proofs.Common.{◌≡◌, ℕ, suc, true, false, cond, eqb, List,
 use Rattle.std.specs.Prelude.{◌||◌, All}
 use Rattle.std.specs.Option.{option_map}
 use Rattle.std.proofs.lemmas.Bool.{cases_Bool, eqb-true, or_left}
-use Rattle.nl_types.specs.NumberLists.{is_one_of}
-use Rattle.nl_types.specs.PartialMaps.{Partial, adjust, adjust_each}
-use Rattle.nl_types.specs.Entries.{Entry, is_needed}
-use Rattle.nl_types.specs.Segments.{Segments}
+use Rattle.nl_types.specs.Plain.NumberLists.{is_one_of}
+use Rattle.nl_types.specs.Blocks.PartialMaps.{Partial, adjust, adjust_each}
+use Rattle.nl_types.specs.Blocks.Entries.{Entry, is_needed}
+use Rattle.nl_types.specs.Blocks.Segments.{Segments}
 use Rattle.nl_vstore.specs.Counts.{NeededAreStanding, needed_places}
 use Rattle.nl_vstore.specs.Located.{entry_needed, needs}
 use Rattle.nl_sufile.specs.BySegment.{lies_in}

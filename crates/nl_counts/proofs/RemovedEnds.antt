@@ -1,9 +1,9 @@
 -- The list of ends behind a removal of checkpoints.
 use Rattle.std.proofs.Common.{◌≡◌, ℕ, ◌<◌, ◌≤◌, ◌⊎◌, Bool, true, List, Some, inl, inr, ap, sym, ◌∙◌, arith}
 use Rattle.std.proofs.lemmas.Bool.{cases_Bool}
-use Rattle.nl_types.specs.NumberLists.{is_one_of}
-use Rattle.nl_types.specs.Entries.{Content, Entry, is_needed}
-use Rattle.nl_types.specs.NeedLaws.{AreGone, LostNumbersEndInTheRun, RemovalsNeedNoMore}
+use Rattle.nl_types.specs.Plain.NumberLists.{is_one_of}
+use Rattle.nl_types.specs.Blocks.Entries.{Content, Entry, is_needed}
+use Rattle.nl_types.specs.Blocks.NeedLaws.{AreGone, LostNumbersEndInTheRun, RemovalsNeedNoMore}
 use Rattle.nl_counts.specs.declared.ends.Ended.{Ended}
 use Rattle.nl_counts.specs.EndLists.{IsRun, end_at, no_end}
 use Rattle.nl_counts.specs.Counted.{AreBelow, AreEnds, HasEndedNeeded}

@@ -1,7 +1,7 @@
 -- Counts by segment over a store, one number at a time.
 use Rattle.std.proofs.Common.{◌≡◌, ℕ, ◌+◌, ◌-◌, ◌<◌, ◌≤◌, true, List, length, get_or, Some, ◌∙◌, arith}
 use Rattle.std.proofs.lemmas.List.{length-set}
-use Rattle.nl_types.specs.PartialMaps.{Partial}
+use Rattle.nl_types.specs.Blocks.PartialMaps.{Partial}
 use Rattle.nl_sufile.specs.BySegment.{AddedIsCounted, CountsAreFew, HasBlock, TakenIsCounted, TakenWasCounted, one_less, one_more}
 use Rattle.nl_vstore.specs.Stores.{IsStore, Store, capacity, is_inside}
 use Rattle.nl_counts.specs.Private.Places.{AreCountsIn, HaveRoom}

@@ -5,9 +5,9 @@ use Rattle.std.proofs.lemmas.Bool.{cases_Bool}
 use Rattle.std.proofs.lemmas.List.{append-nil, get_or-replicate, length-replicate}
 use Rattle.nl_types.specs.declared.error.VolError.{VolError}
 use Rattle.nl_types.specs.declared.error.VolError.TheVariants as error
-use Rattle.nl_types.specs.Entries.{Entry, is_needed}
-use Rattle.nl_types.specs.Lifetimes.{WritesAreByNumber}
-use Rattle.nl_types.specs.NeedLaws.{CheckpointsKeepNeeds}
+use Rattle.nl_types.specs.Blocks.Entries.{Entry, is_needed}
+use Rattle.nl_types.specs.Blocks.Lifetimes.{WritesAreByNumber}
+use Rattle.nl_types.specs.Blocks.NeedLaws.{CheckpointsKeepNeeds}
 use Rattle.nl_sufile.specs.BySegment as by_segment
 use Rattle.nl_vstore.specs.Counts.{NeededAreStanding, needed_counts, needed_places}
 use Rattle.nl_vstore.specs.Located.{entry_needed, needed_count}

@@ -5,10 +5,10 @@ use Rattle.std.specs.Option.{option_map}
 use Rattle.std.proofs.lemmas.List.{length-map, length-set}
 use Rattle.nl_types.specs.declared.segment.Log.{Log}
 use Rattle.nl_types.specs.declared.segment.SegmentInfo.{SegmentInfo}
-use Rattle.nl_types.specs.PartialMaps.{Partial}
-use Rattle.nl_types.specs.Entries.{Content, Entry, is_needed}
-use Rattle.nl_types.specs.Placing.{with_log, with_logs}
-use Rattle.nl_types.specs.Segments.{Segments, at_rest, none_active, with_clean, with_error}
+use Rattle.nl_types.specs.Blocks.PartialMaps.{Partial}
+use Rattle.nl_types.specs.Blocks.Entries.{Content, Entry, is_needed}
+use Rattle.nl_types.specs.Blocks.Placing.{with_log, with_logs}
+use Rattle.nl_types.specs.Blocks.Segments.{Segments, at_rest, none_active, with_clean, with_error}
 use Rattle.nl_sufile.specs.BySegment.{AreCounts}
 use Rattle.nl_vstore.specs.Counts.{NeededAreStanding, needed_counts, needed_places}
 use Rattle.nl_vstore.specs.Located.{entry_needed}

@@ -2,7 +2,7 @@
 use Rattle.std.proofs.Common.{◌≡◌, ℕ, zero, suc, ◌<◌, ◌≤◌, ◌⊎◌, Bool, cond, List, [], ◌∷◌, length, Option, Some, None, inl, inr, sym, refl, ap, subst, ◌∙◌, arith}
 use Rattle.std.specs.Prelude.{is_some}
 use Rattle.std.proofs.lemmas.Bool.{cases_lt}
-use Rattle.nl_types.specs.Entries.{Content, Entry}
+use Rattle.nl_types.specs.Blocks.Entries.{Content, Entry}
 use Rattle.nl_counts.specs.declared.ends.Ended.{Ended}
 use Rattle.nl_counts.specs.EndLists.{end_at, end_of, no_end, swept}
 use Rattle.nl_counts.specs.Counted.{AreBelow, AreEnds, HasEndedNeeded}

@@ -2,11 +2,11 @@
 use Rattle.std.proofs.Common.{◌≡◌, ℕ, ◌+◌, Bool, true, false, cond, eqb, List, [], ◌∷◌, ◌++◌, map, Option, Some, None, inl, inr, sym, refl, ap, subst, ◌∙◌}
 use Rattle.std.specs.Prelude.{◌||◌}
 use Rattle.std.proofs.lemmas.Bool.{cases_Bool, or_left}
-use Rattle.nl_types.specs.NumberLists.{NoneTwice, is_one_of}
-use Rattle.nl_types.specs.PartialMaps.{Partial, put, put_each}
-use Rattle.nl_types.specs.Entries.{Birth, Entry, GivenOnce, birth_of, born_at, ended_at, is_needed, number_of, written, written_at}
-use Rattle.nl_types.specs.Lifetimes.{WritesAreByNumber}
-use Rattle.nl_types.specs.NeedLaws.{CheckpointsKeepNeeds}
+use Rattle.nl_types.specs.Plain.NumberLists.{NoneTwice, is_one_of}
+use Rattle.nl_types.specs.Blocks.PartialMaps.{Partial, put, put_each}
+use Rattle.nl_types.specs.Blocks.Entries.{Birth, Entry, GivenOnce, birth_of, born_at, ended_at, is_needed, number_of, written, written_at}
+use Rattle.nl_types.specs.Blocks.Lifetimes.{WritesAreByNumber}
+use Rattle.nl_types.specs.Blocks.NeedLaws.{CheckpointsKeepNeeds}
 use Rattle.nl_vstore.specs.Batches.{Changes}
 use Rattle.nl_vstore.specs.Counts.{NeededAreStanding, needed_places}
 use Rattle.nl_vstore.specs.Located.{entry_needed}

@@ -4,10 +4,10 @@ use Rattle.std.specs.Prelude.{◌||◌, is_none}
 use Rattle.std.specs.List.{AllPairs, list_any}
 use Rattle.std.proofs.lemmas.Bool.{cases_Bool, cases_lt, eqb-true, eq-eqb, or_left, or_right}
 use Rattle.std.proofs.lemmas.List.{length-append}
-use Rattle.nl_types.specs.NumberLists.{is_one_of}
-use Rattle.nl_types.specs.Entries.{Birth, Content, Entry, birth_of, covers, ended_at, is_needed, written, written_at}
-use Rattle.nl_types.specs.Lifetimes.{IsBounded, WritesAreByNumber}
-use Rattle.nl_types.specs.NeedLaws.{CheckpointsKeepNeeds}
+use Rattle.nl_types.specs.Plain.NumberLists.{is_one_of}
+use Rattle.nl_types.specs.Blocks.Entries.{Birth, Content, Entry, birth_of, covers, ended_at, is_needed, written, written_at}
+use Rattle.nl_types.specs.Blocks.Lifetimes.{IsBounded, WritesAreByNumber}
+use Rattle.nl_types.specs.Blocks.NeedLaws.{CheckpointsKeepNeeds}
 use Rattle.nl_vstore.specs.Batches.{Changes, CanBeTaken, is_born, is_live}
 use Rattle.nl_counts.specs.declared.ends.Ended.{Ended}
 use Rattle.nl_counts.specs.EndLists.{end_at, end_of, no_end, noted_ends}

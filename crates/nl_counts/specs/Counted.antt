@@ -2,8 +2,8 @@
 -- numbers have ended.
 use Rattle.std.specs.Prelude.{◌≡◌, ℕ, ◌<◌, ◌≤◌, Bool, true, List, length, take, Some}
 use Rattle.std.specs.List.Sorted.{IsNonDecreasingBy}
-use Rattle.nl_types.specs.NumberLists.{is_one_of}
-use Rattle.nl_types.specs.Entries.{Content, Entry, is_needed}
+use Rattle.nl_types.specs.Plain.NumberLists.{is_one_of}
+use Rattle.nl_types.specs.Blocks.Entries.{Content, Entry, is_needed}
 use Rattle.nl_sufile.specs.BySegment.{grown_counts}
 use Rattle.nl_vstore.specs.Counts.{needed_counts}
 use Rattle.nl_vstore.specs.Stores.{Store, content_in}

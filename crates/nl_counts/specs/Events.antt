@@ -2,10 +2,9 @@
 -- checkpoints.
 use Rattle.std.specs.Prelude.{◌≡◌, ◌≢◌, ℕ, ◌+◌, ◌<◌, ◌≤◌, Bool, true, List, All, length}
 use Rattle.std.specs.List.{AllPairs}
-use Rattle.nl_types.specs.declared.period.Period.{Period}
-use Rattle.nl_types.specs.NumberLists.{NoneTwice, is_one_of}
-use Rattle.nl_types.specs.Entries.{Entry, is_needed, is_period_needed}
-use Rattle.nl_types.specs.Lifetimes.{IsBounded}
+use Rattle.nl_types.specs.Plain.NumberLists.{NoneTwice, is_one_of}
+use Rattle.nl_types.specs.Blocks.Entries.{Entry, is_needed}
+use Rattle.nl_types.specs.Blocks.Lifetimes.{IsBounded}
 use Rattle.nl_vstore.specs.Batches.{Changes, CanBeTaken}
 use Rattle.nl_vstore.specs.Located.{needs}
 use Rattle.nl_vstore.specs.Stores.{AreInside, IsMoved, IsStore, IsWritten, Store, capacity, content_in}
@@ -46,9 +45,3 @@ pub record HasMovedNeeded (segment : ℕ) (numbers kept : List ℕ) (old new : S
   pub checkpoint : ℕ
   pub stamp : ℕ
   pub moved : IsMoved segment checkpoint stamp numbers old new
-
--- ---- removals
-
--- the test tells what these checkpoints need
-abbrev pub TellsNeeds : (Period → Bool) → List ℕ → Type 0
-TellsNeeds test kept = (p : Period) → test p ≡ is_period_needed kept p

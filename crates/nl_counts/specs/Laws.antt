@@ -1,7 +1,7 @@
 -- What events that change no count leave, and what a store begins with.
 use Rattle.std.specs.Prelude.{◌≡◌, ℕ, ◌<◌, ◌≤◌, Bool, List, [], ◌∷◌, ◌++◌, length, replicate, take, None}
 use Rattle.nl_types.specs.declared.error.VolError.{VolError}
-use Rattle.nl_types.specs.Entries.{Entry, is_needed}
+use Rattle.nl_types.specs.Blocks.Entries.{Entry, is_needed}
 use Rattle.nl_vstore.specs.Batches.{Changes}
 use Rattle.nl_vstore.specs.Located.{needed_count, needed_in}
 use Rattle.nl_vstore.specs.Stores.{HasGrown, IsGrowthRefused, IsMoveRefused, IsReclaimed, IsStore, IsWriteRefused, KeepsStored, Store, content_in}

@@ -1,6 +1,6 @@
 //! Counts of pages that are written or moved.
 ghost use Rattle.std.specs.Prelude.{◌≡◌, ℕ, ◌<◌, length, map, slice_index_or};
-ghost use Rattle.nl_types.specs.PartialMaps.{Partial};
+ghost use Rattle.nl_types.specs.Blocks.PartialMaps.{Partial};
 ghost use Rattle.nl_sufile.specs.BySegment.{one_less};
 ghost use Rattle.nl_vstore.specs.Batches.{number_of_payload};
 ghost use Rattle.nl_vstore.specs.Stores.{address_in};
@@ -8,8 +8,7 @@ ghost use Rattle.nl_counts.specs.Private.Adding.{GetBlocks, LeaveSegment, mixed}
 ghost use Rattle.nl_counts.specs.Private.Places.{AreCountsIn, HasOneMore, HaveRoom};
 
 use nl_space::Payload;
-use nl_sufile::SegmentCounts;
-use nl_sufile::laws::counts_follow_blocks;
+use nl_sufile::{SegmentCounts, laws};
 use nl_types::{Segment, VirtualNumber};
 use nl_vstore::Vstore;
 
@@ -32,7 +31,7 @@ pub(crate) fn count_births<V: Vstore>(store: &V, counts: &mut SegmentCounts, bir
         → AreCountsIn (V.store store.now)
         (mixed (map number_of_payload births.now) (address_in (V.store store.now)) old) counts.new }
 {
-    counts_follow_blocks();
+    laws::counts_follow_blocks();
     for birth in births {
         count_one(store, counts, birth.0.number);
     }
@@ -68,7 +67,7 @@ pub(crate) fn count_moves<V: Vstore>(
         → AreCountsIn (V.store store.now)
         (mixed numbers.now (address_in (V.store store.now)) old) counts.new }
 {
-    counts_follow_blocks();
+    laws::counts_follow_blocks();
     for number in numbers {
         move_one(store, counts, segment, *number);
     }

@@ -1,10 +1,6 @@
 //! What the definitions mean, as contracts of functions that change nothing.
 ghost use Rattle.nl_counts.specs.Laws.{EmptyCheckpointsKeepCounts, FirstNeededStandThere, GrowthIsTakenBack, GrowthKeepsCounts, ReadsKeepCounts, RefusedGrowthKeepsCounts, RefusedMovesKeepCounts, RefusedWritesKeepCounts, RetirementsKeepCounts, UnusedStoresAreCounted};
 
-use nl_sufile::laws::counts_follow_blocks;
-use nl_types::laws::{checkpoints_keep_needs, writes_are_by_number};
-use nl_vstore::laws::{needed_numbers_are_counted, needed_numbers_stand_once};
-
 /// A retirement takes out no needed number, and neither reads of the device nor a checkpoint without births
 /// and ends change a number: what was counted still is.
 pub fn counts_stay()
@@ -12,10 +8,10 @@ pub fn counts_stay()
     ensures read { ReadsKeepCounts }
     ensures empty { EmptyCheckpointsKeepCounts }
 {
-    counts_follow_blocks();
-    checkpoints_keep_needs();
-    writes_are_by_number();
-    needed_numbers_are_counted();
+    nl_sufile::laws::counts_follow_blocks();
+    nl_types::laws::checkpoints_keep_needs();
+    nl_types::laws::writes_are_by_number();
+    nl_vstore::laws::needed_numbers_are_counted();
 }
 
 /// A write or a move that is refused changes no number, be it broken off in the middle.
@@ -23,7 +19,7 @@ pub fn refusals_keep_counts()
     ensures written { RefusedWritesKeepCounts }
     ensures moved { RefusedMovesKeepCounts }
 {
-    needed_numbers_are_counted();
+    nl_vstore::laws::needed_numbers_are_counted();
 }
 
 /// In segments that come behind the others no number stands, so their counts may be taken back; and where
@@ -33,20 +29,20 @@ pub fn growth_keeps_counts()
     ensures back { GrowthIsTakenBack }
     ensures refused { RefusedGrowthKeepsCounts }
 {
-    counts_follow_blocks();
-    needed_numbers_are_counted();
+    nl_sufile::laws::counts_follow_blocks();
+    nl_vstore::laws::needed_numbers_are_counted();
 }
 
 /// Of a store without a number in use all counts are 0.
 pub fn unused_stores_are_counted()
     ensures { UnusedStoresAreCounted }
 {
-    needed_numbers_are_counted();
+    nl_vstore::laws::needed_numbers_are_counted();
 }
 
 /// The first needed numbers of a segment, as a move takes them, stand there once each.
 pub fn first_needed_stand_there()
     ensures { FirstNeededStandThere }
 {
-    needed_numbers_stand_once();
+    nl_vstore::laws::needed_numbers_stand_once();
 }

@@ -1,32 +1,18 @@
 //! Numbers that no kept checkpoint needs any more.
-ghost use Rattle.std.specs.Prelude.{◌≡◌, ◌<◌, ◌≤◌, ℕ, Bool, List, Some, length, not};
+ghost use Rattle.std.specs.Prelude.{◌≡◌, ◌<◌, ◌≤◌, ℕ, List, Some, length, not};
 ghost use Rattle.std.specs.Bool.{OnFalse, OnTrue};
-ghost use Rattle.nl_vstore.specs.Located.{by_period, needs};
+ghost use Rattle.nl_types.specs.Blocks.Entries.{is_needed};
+ghost use Rattle.nl_vstore.specs.Located.{needs};
 ghost use Rattle.nl_vstore.specs.Stores.{content_in};
 ghost use Rattle.nl_counts.specs.declared.ends.Ended.{Ended};
 ghost use Rattle.nl_counts.specs.EndLists.{end_at};
 ghost use Rattle.nl_counts.specs.Private.Listed.{AreListed, HasLetGo, HasLetGoAll, IsTakenOff, ListsAt};
 
 use crate::ends::Ends;
-use nl_reclaim::Keeping;
-use nl_sufile::SegmentCounts;
-use nl_sufile::laws::counts_follow_blocks;
+use nl_reclaim::{Keeping, is_number_needed};
+use nl_sufile::{SegmentCounts, laws};
 use nl_types::VirtualNumber;
 use nl_vstore::Vstore;
-
-/// Whether a number is in use for what is needed.
-pub(crate) fn is_needed<V: Vstore, K: Keeping>(
-    store: &V,
-    keeping: &K,
-    number: VirtualNumber,
-) -> bool
-    ensures { result ≡ needs (by_period (K.test keeping.now)) (content_in (V.store store.now)) number }
-{
-    match store.period(number) {
-        Some(period) => keeping.needed(period),
-        None => false,
-    }
-}
 
 /// Takes a listed number off the count of its segment where it isn't needed, and tells whether.
 fn take_off<V: Vstore, K: Keeping>(
@@ -38,12 +24,12 @@ fn take_off<V: Vstore, K: Keeping>(
     requires { (ends : List Ended) × (index : ℕ) × AreListed (V.store store.now) counts.old ends
         × ListsAt ends index (Some number) }
     ensures told { result ≡ not
-        (needs (by_period (K.test keeping.now)) (content_in (V.store store.now)) number) }
+        (needs (is_needed (K.kept keeping.now)) (content_in (V.store store.now)) number) }
     ensures taken { OnTrue result (IsTakenOff (V.store store.now) number counts.old counts.new) }
     ensures same { OnFalse result (counts.new ≡ counts.old) }
 {
-    counts_follow_blocks();
-    if is_needed(store, keeping, number) {
+    laws::counts_follow_blocks();
+    if is_number_needed(store, keeping, number) {
         return false;
     }
     match store.segment_of(number) {
@@ -66,14 +52,14 @@ fn let_one_go<V: Vstore, K: Keeping>(
     requires index { index < length ends.old.ended }
     requires listed { AreListed (V.store store.now) counts.old ends.old.ended }
     ensures listed { AreListed (V.store store.now) counts.new ends.new.ended }
-    ensures gone { HasLetGo (needs (by_period (K.test keeping.now)) (content_in (V.store store.now)))
+    ensures gone { HasLetGo (needs (is_needed (K.kept keeping.now)) (content_in (V.store store.now)))
         index ends.old.ended ends.new.ended }
     ensures room { ends.new.room ≡ ends.old.room }
 {
     let Some(number) = ends.number(index) else {
         return;
     };
-    counts_follow_blocks();
+    laws::counts_follow_blocks();
     if take_off(store, keeping, counts, number) {
         ends.blank(index);
     }
@@ -92,7 +78,7 @@ pub(crate) fn let_go<V: Vstore, K: Keeping>(
     requires run { to ≤ length ends.old.ended }
     requires listed { AreListed (V.store store.now) counts.old ends.old.ended }
     ensures listed { AreListed (V.store store.now) counts.new ends.new.ended }
-    ensures gone { HasLetGoAll (needs (by_period (K.test keeping.now)) (content_in (V.store store.now)))
+    ensures gone { HasLetGoAll (needs (is_needed (K.kept keeping.now)) (content_in (V.store store.now)))
         from to ends.old.ended ends.new.ended }
     ensures room { ends.new.room ≡ ends.old.room }
 {
@@ -115,12 +101,12 @@ fn take_one_off<V: Vstore, K: Keeping>(
     ensures { (left : List Ended) → AreListed (V.store store.now) counts.old left
         → ListsAt left index (end_at ends.now.ended index).number
         → (new : List Ended) × AreListed (V.store store.now) counts.new new
-        × HasLetGo (needs (by_period (K.test keeping.now)) (content_in (V.store store.now))) index left new }
+        × HasLetGo (needs (is_needed (K.kept keeping.now)) (content_in (V.store store.now))) index left new }
 {
     let Some(number) = ends.number(index) else {
         return;
     };
-    counts_follow_blocks();
+    laws::counts_follow_blocks();
     let _ = take_off(store, keeping, counts, number);
 }
 
@@ -138,7 +124,7 @@ pub(crate) fn take_run_off<V: Vstore, K: Keeping>(
     requires run { to ≤ length ends.now.ended }
     requires listed { AreListed (V.store store.now) counts.old ends.now.ended }
     ensures { (left : List Ended) × AreListed (V.store store.now) counts.new left
-        × HasLetGoAll (needs (by_period (K.test keeping.now)) (content_in (V.store store.now)))
+        × HasLetGoAll (needs (is_needed (K.kept keeping.now)) (content_in (V.store store.now)))
         from to ends.now.ended left }
 {
     for index in from..to {

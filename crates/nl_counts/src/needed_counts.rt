@@ -1,12 +1,12 @@
 //! The counts of needed numbers, as events change them.
 ghost use Rattle.std.specs.Prelude.{◌≡◌, ℕ, ◌<◌, ◌≤◌, List, [], ◌∷◌, ◌++◌, length, replicate, slice_get, IfOk, IsOkUnless, OnErr, OnOk};
 ghost use Rattle.std.specs.Option.{ok_or};
-ghost use Rattle.nl_types.specs.Entries.{is_needed};
-ghost use Rattle.nl_types.specs.NeedLaws.{AreGone};
+ghost use Rattle.nl_types.specs.Blocks.Entries.{is_needed};
+ghost use Rattle.nl_types.specs.Blocks.NeedLaws.{AreGone};
 ghost use Rattle.nl_vstore.specs.Counts.{needed_counts};
 ghost use Rattle.nl_vstore.specs.Stores.{Store};
 ghost use Rattle.nl_counts.specs.Counted.{IsCounted, with_first, with_segments};
-ghost use Rattle.nl_counts.specs.Events.{HasMovedNeeded, IsLatest, IsNextWritten, TellsNeeds};
+ghost use Rattle.nl_counts.specs.Events.{HasMovedNeeded, IsLatest, IsNextWritten};
 
 use crate::counting::{count_births, count_moves};
 use crate::ends::Ends;
@@ -14,9 +14,7 @@ use crate::letting_go::{let_go, take_run_off};
 use crate::walking::walk;
 use nl_reclaim::Keeping;
 use nl_sufile::SegmentCounts;
-use nl_types::laws::{checkpoints_keep_needs, removals_let_a_run_go, writes_are_by_number};
 use nl_types::{CheckpointNumber, Segment, VirtualNumber, VolError};
-use nl_vstore::laws::needed_numbers_are_counted;
 use nl_vstore::{Batch, Vstore};
 use std::alloc::{AllocError, Global};
 use std::marker::Model;
@@ -57,12 +55,12 @@ impl NeededCounts {
         store: &V,
         keeping: &K,
     ) -> Result<NeededCounts, VolError>
-        ensures counted { IfOk result (λ needed. (latest : ℕ) (kept : List ℕ)
-            → TellsNeeds (K.test keeping.now) kept → IsLatest latest kept (V.store store.now)
-            → IsCounted (V.store store.now) kept needed) }
+        ensures counted { IfOk result (λ needed. (latest : ℕ)
+            → IsLatest latest (K.kept keeping.now) (V.store store.now)
+            → IsCounted (V.store store.now) (K.kept keeping.now) needed) }
         ensures refused { IsOkUnless result VolError.Memory }
     {
-        needed_numbers_are_counted();
+        nl_vstore::laws::needed_numbers_are_counted();
         let segments = store.table().sustat().segments as u32;
         let mut counts = SegmentCounts::new(alloc, segments)?;
         let ended = walk(alloc, store, keeping, &mut counts)?;
@@ -109,9 +107,9 @@ impl NeededCounts {
             → IsNextWritten checkpoint batch.now kept old (V.store store.now)
             → IsCounted (V.store store.now) (kept ++ checkpoint ∷ []) self.new }
     {
-        needed_numbers_are_counted();
-        checkpoints_keep_needs();
-        writes_are_by_number();
+        nl_vstore::laws::needed_numbers_are_counted();
+        nl_types::laws::checkpoints_keep_needs();
+        nl_types::laws::writes_are_by_number();
         count_births(store, &mut self.counts, batch.births());
         self.ends.note(batch.ends(), checkpoint);
     }
@@ -124,7 +122,7 @@ impl NeededCounts {
             → HasMovedNeeded segment numbers.now kept old (V.store store.now)
             → IsCounted (V.store store.now) kept self.new }
     {
-        needed_numbers_are_counted();
+        nl_vstore::laws::needed_numbers_are_counted();
         count_moves(store, &mut self.counts, segment, numbers);
     }
 
@@ -139,12 +137,12 @@ impl NeededCounts {
     )
         requires order { first ≤ next }
         requires counted { (kept : List ℕ) × IsCounted (V.store store.now) kept self.old }
-        ensures { (kept stay : List ℕ) → IsCounted (V.store store.now) kept self.old
-            → AreGone first next kept stay → TellsNeeds (K.test keeping.now) stay
-            → IsCounted (V.store store.now) stay self.new }
+        ensures { (kept : List ℕ) → IsCounted (V.store store.now) kept self.old
+            → AreGone first next kept (K.kept keeping.now)
+            → IsCounted (V.store store.now) (K.kept keeping.now) self.new }
     {
-        needed_numbers_are_counted();
-        removals_let_a_run_go();
+        nl_vstore::laws::needed_numbers_are_counted();
+        nl_types::laws::removals_let_a_run_go();
         let (from, to) = self.ends.run(first, next);
         let_go(store, keeping, &mut self.counts, &mut self.ends, from, to);
     }
@@ -172,13 +170,13 @@ impl NeededCounts {
         requires order { first ≤ next }
         requires counted { (kept : List ℕ) × IsCounted (V.store store.now) kept self.now }
         ensures counts { IfOk result
-            (λ counts. (kept stay : List ℕ) → IsCounted (V.store store.now) kept self.now
-            → AreGone first next kept stay → TellsNeeds (K.test staying.now) stay
-            → counts ≡ needed_counts (V.store store.now) (is_needed stay)) }
+            (λ counts. (kept : List ℕ) → IsCounted (V.store store.now) kept self.now
+            → AreGone first next kept (K.kept staying.now)
+            → counts ≡ needed_counts (V.store store.now) (is_needed (K.kept staying.now))) }
         ensures refused { IsOkUnless result VolError.Memory }
     {
-        needed_numbers_are_counted();
-        removals_let_a_run_go();
+        nl_vstore::laws::needed_numbers_are_counted();
+        nl_types::laws::removals_let_a_run_go();
         let mut counts = self.counts.copy(alloc)?;
         let (from, to) = self.ends.run(first, next);
         take_run_off(store, staying, &mut counts, &self.ends, from, to);

@@ -1,6 +1,6 @@
 //! The counts of a store, made by a walk over all its numbers.
 ghost use Rattle.std.specs.Prelude.{◌≡◌, ℕ, ◌+◌, length, replicate, IfOk, OnOk};
-ghost use Rattle.nl_vstore.specs.Located.{by_period};
+ghost use Rattle.nl_types.specs.Blocks.Entries.{is_needed};
 ghost use Rattle.nl_vstore.specs.Stores.{capacity, content_in};
 ghost use Rattle.nl_counts.specs.EndLists.{with_found};
 ghost use Rattle.nl_counts.specs.Private.Places.{HaveRoom};
@@ -8,10 +8,8 @@ ghost use Rattle.nl_counts.specs.Private.Walked.{HasWalked, ending_of};
 
 use crate::counting::count_one;
 use crate::ends::Ended;
-use crate::letting_go::is_needed;
-use nl_reclaim::Keeping;
-use nl_sufile::SegmentCounts;
-use nl_sufile::laws::counts_follow_blocks;
+use nl_reclaim::{Keeping, is_number_needed};
+use nl_sufile::{SegmentCounts, laws};
 use nl_types::{CheckpointNumber, VirtualNumber};
 use nl_vstore::Vstore;
 use std::alloc::{AllocError, Global};
@@ -53,11 +51,11 @@ fn walk_one<V: Vstore, K: Keeping>(
 ) -> Result<(), AllocError>
     requires { HaveRoom (V.store store.now) counts.old }
     ensures { OnOk result ((n : ℕ) → number ≡ n + 1
-        → HasWalked (V.store store.now) (by_period (K.test keeping.now)) n counts.old ended.old.items
-        → HasWalked (V.store store.now) (by_period (K.test keeping.now)) number counts.new ended.new.items) }
+        → HasWalked (V.store store.now) (is_needed (K.kept keeping.now)) n counts.old ended.old.items
+        → HasWalked (V.store store.now) (is_needed (K.kept keeping.now)) number counts.new ended.new.items) }
 {
-    counts_follow_blocks();
-    if is_needed(store, keeping, number) {
+    laws::counts_follow_blocks();
+    if is_number_needed(store, keeping, number) {
         count_one(store, counts, number);
         note_end(ended, number, end_of(store, number))?;
         Ok(())
@@ -74,10 +72,10 @@ pub(crate) fn walk<V: Vstore, K: Keeping>(
     counts: &mut SegmentCounts,
 ) -> Result<Vec<Ended>, AllocError>
     requires { counts.old ≡ replicate (length (V.store store.now).segments.each) 0 }
-    ensures { IfOk result (λ ended. HasWalked (V.store store.now) (by_period (K.test keeping.now))
+    ensures { IfOk result (λ ended. HasWalked (V.store store.now) (is_needed (K.kept keeping.now))
         (capacity (V.store store.now)) counts.new ended.items) }
 {
-    counts_follow_blocks();
+    laws::counts_follow_blocks();
     let mut ended = Vec::new(alloc);
     for below in 0..store.capacity() {
         let number = VirtualNumber::new(below + 1);

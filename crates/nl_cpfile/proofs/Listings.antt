@@ -4,7 +4,7 @@ use Rattle.std.proofs.lemmas.List.{length-reverse, reverse-append}
 use Rattle.std.specs.List.{filter}
 use Rattle.nl_types.specs.declared.row.ListOptions.{ListOptions}
 use Rattle.nl_types.specs.declared.row.Row.{Row}
-use Rattle.nl_types.specs.Rows.{at_most, in_direction, is_shown, listing}
+use Rattle.nl_types.specs.Plain.Rows.{at_most, in_direction, is_shown, listing}
 use Rattle.nl_cpfile.specs.declared.checkpoint.Checkpoint.{Checkpoint}
 use Rattle.nl_cpfile.specs.Tables.{checkpoint_row, rows_of}
 use Rattle.nl_cpfile.specs.Facts.Rising.{map-push}

@@ -4,7 +4,7 @@ use Rattle.std.specs.Prelude.{◌||◌, MatchOption}
 use Rattle.std.specs.List.{AllByRecursion, AllPairs}
 use Rattle.std.specs.List.Sorted.{IsPartitionPoint}
 use Rattle.std.proofs.lemmas.Bool.{cases_Bool, cases_lt, eqb-true, eq-eqb, leb-true, leb-false, or_left, or_right}
-use Rattle.nl_types.specs.NumberLists.{is_one_of}
+use Rattle.nl_types.specs.Plain.NumberLists.{is_one_of}
 use Rattle.nl_cpfile.specs.declared.checkpoint.Checkpoint.{Checkpoint}
 use Rattle.nl_cpfile.specs.Searching.{IsLeastAbove, NoneAbove}
 use Rattle.nl_cpfile.specs.Tables.{IsRising, Precedes, kept_numbers}

@@ -6,8 +6,8 @@ use Rattle.std.specs.Option.{is_none, option_map}
 use Rattle.std.proofs.lemmas.Bool.{and_left, and_right, eq-eqb, ne_eqb}
 use Rattle.std.proofs.lemmas.List.{take_more}
 use Rattle.std.proofs.lemmas.List.Elements.{All-filter, All-map}
-use Rattle.nl_types.specs.Rows.{is_snapshot}
-use Rattle.nl_types.specs.CheckpointLaws.{removed_by}
+use Rattle.nl_types.specs.Plain.Rows.{is_snapshot}
+use Rattle.nl_types.specs.Plain.CheckpointLaws.{removed_by}
 use Rattle.nl_types.specs.declared.error.VolError.{VolError}
 use Rattle.nl_types.specs.declared.error.VolError.TheVariants as error
 use Rattle.nl_cpfile.specs.declared.checkpoint.Checkpoint.{Checkpoint}
@@ -15,8 +15,8 @@ use Rattle.nl_types.specs.declared.row.Range.{Range}
 use Rattle.nl_types.specs.declared.row.Row.{Row}
 use Rattle.nl_types.specs.declared.row.Stays.{Stays}
 use Rattle.nl_cpfile.specs.Private.Judging.{joined}
-use Rattle.nl_types.specs.NumberLists.{is_one_of}
-use Rattle.nl_types.specs.Rows.{rows_between, is_between, is_empty_range, is_no_range, judged_range, may_go, number_of, range_removal, reason_to_stay, removable, stay_of, stays_of}
+use Rattle.nl_types.specs.Plain.NumberLists.{is_one_of}
+use Rattle.nl_types.specs.Plain.Rows.{rows_between, is_between, is_empty_range, is_no_range, judged_range, may_go, number_of, range_removal, reason_to_stay, removable, stay_of, stays_of}
 use Rattle.nl_cpfile.specs.Tables.{IsRising, IsTable, Precedes, Table, is_kept_without, kept_numbers, range_in, checkpoint_row, rows, rows_of, without}
 use Rattle.nl_cpfile.specs.Facts.Rising.{IsRising-filter, IsRising-front, IsRising-last, earlier-low, map-push}
 use Rattle.nl_cpfile.proofs.Numbers.{numbers-rise}

@@ -3,12 +3,12 @@ use Rattle.std.proofs.Common.{◌≡◌, ◌≢◌, ◌<◌, ℕ, Bool, eqb, con
 use Rattle.std.specs.Prelude.{Ok, Err}
 use Rattle.std.specs.Option.{ok_or, option_map}
 use Rattle.std.proofs.lemmas.Bool.{eqb-false, eqb-true, ne_eqb}
-use Rattle.nl_types.specs.Calls.{and_then, ok_unless}
-use Rattle.nl_types.specs.Rows.{is_snapshot}
+use Rattle.nl_types.specs.Plain.Calls.{and_then, ok_unless}
+use Rattle.nl_types.specs.Plain.Rows.{is_snapshot}
 use Rattle.nl_types.specs.declared.error.VolError.{VolError}
 use Rattle.nl_types.specs.declared.error.VolError.TheVariants.{IsSnapshot, Latest, NoCheckpoint}
 use Rattle.nl_cpfile.specs.declared.checkpoint.Checkpoint.{Checkpoint}
-use Rattle.nl_types.specs.Rows.{find_row, kept_row, mode_change, reason_to_stay, removal}
+use Rattle.nl_types.specs.Plain.Rows.{find_row, kept_row, mode_change, reason_to_stay, removal}
 use Rattle.nl_cpfile.specs.Tables.{IsRising, IsTable, Precedes, Table, all, kept_at, checkpoint_row, rows, rows_of}
 use Rattle.nl_cpfile.specs.Facts.Found.{found, found-here, found-later, eq_by_cmp-nat_cmp}
 use Rattle.nl_cpfile.specs.Facts.Rising.{All-last}

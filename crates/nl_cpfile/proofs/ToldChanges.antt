@@ -4,9 +4,9 @@ use Rattle.std.specs.List.{filter}
 use Rattle.nl_types.specs.declared.event.Mode.{Mode}
 use Rattle.nl_cpfile.specs.declared.checkpoint.Checkpoint.{Checkpoint}
 use Rattle.nl_types.specs.declared.row.Row.{Row}
-use Rattle.nl_types.specs.Rows as told
-use Rattle.nl_types.specs.NumberLists.{is_one_of}
-use Rattle.nl_types.specs.Rows.{row_with_mode}
+use Rattle.nl_types.specs.Plain.Rows as told
+use Rattle.nl_types.specs.Plain.NumberLists.{is_one_of}
+use Rattle.nl_types.specs.Plain.Rows.{row_with_mode}
 use Rattle.nl_cpfile.specs.Tables.{Table, is_kept_without, moded, checkpoint_row, rows, rows_of, with_mode, without}
 
 row-moded : (n : ℕ) (mode : Mode) (c : Checkpoint)

@@ -1,7 +1,7 @@
 -- The entries of the kept checkpoints in an image.
 use Rattle.std.specs.Prelude.{◌≡◌, ℕ, Bool, true, not, ◌<◌, ◌≤◌, List, flat_map, All, AllPairs, IsSome}
 use Rattle.std.specs.List.{list_all}
-use Rattle.nl_types.specs.Limits.{checkpoint_number_limit}
+use Rattle.nl_types.specs.Plain.Limits.{checkpoint_number_limit}
 use Rattle.nl_layout.specs.declared.checkpoint_entry.CheckpointEntry.{CheckpointEntry}
 use Rattle.nl_layout.specs.declared.superblock.Mark.{Mark}
 use Rattle.nl_layout.specs.declared.superblock.Mark.TheVariants.{First, Second}

@@ -1,6 +1,6 @@
 //! A kept checkpoint, and what is judged of it alone.
 ghost use Rattle.std.specs.Prelude.{◌≡◌};
-ghost use Rattle.nl_types.specs.Rows as told;
+ghost use Rattle.nl_types.specs.Plain.Rows as told;
 ghost use Rattle.nl_cpfile.specs.Tables as tables;
 
 use nl_layout::Root;

@@ -1,7 +1,7 @@
 //! What is judged of many checkpoints.
 ghost use Rattle.std.specs.Prelude.{◌≡◌, [], ◌∷◌, ◌++◌, ◌≤◌, length, IfOk};
 ghost use Rattle.std.specs.List.{filter};
-ghost use Rattle.nl_types.specs.Rows as told;
+ghost use Rattle.nl_types.specs.Plain.Rows as told;
 ghost use Rattle.nl_cpfile.specs.Private.Judging.{joined};
 ghost use Rattle.nl_cpfile.specs.Tables as tables;
 

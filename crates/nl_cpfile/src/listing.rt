@@ -2,7 +2,7 @@
 ghost use Rattle.std.specs.Prelude.{◌≡◌, ◌≤◌, List, [], ◌∷◌, ◌++◌, length, reverse, take, IfOk};
 ghost use Rattle.std.specs.List.{filter};
 ghost use Rattle.nl_types.specs.declared.row.Row.{Row};
-ghost use Rattle.nl_types.specs.Rows as told;
+ghost use Rattle.nl_types.specs.Plain.Rows as told;
 ghost use Rattle.nl_cpfile.specs.Tables.{rows_of};
 
 use crate::checkpoint::Checkpoint;

@@ -1,10 +1,10 @@
 //! The checkpoints that are kept.
 ghost use Rattle.std.specs.Prelude.{◌≡◌, ◌<◌, [], ◌∷◌, All, AllPairs, IfOk, OnErr, OnOk};
 ghost use Rattle.std.specs.Option.{option_copied};
-ghost use Rattle.nl_types.specs.Calls.{IsUnlessMemory};
-ghost use Rattle.nl_types.specs.Limits.{checkpoint_number_limit};
-ghost use Rattle.nl_types.specs.Rows.{rows_between, judged_range, kept_row, mode_change, range_removal, removal};
-ghost use Rattle.nl_types.specs.Rows as told;
+ghost use Rattle.nl_types.specs.Plain.Calls.{IsUnlessMemory};
+ghost use Rattle.nl_types.specs.Plain.Limits.{checkpoint_number_limit};
+ghost use Rattle.nl_types.specs.Plain.Rows.{rows_between, judged_range, kept_row, mode_change, range_removal, removal};
+ghost use Rattle.nl_types.specs.Plain.Rows as told;
 ghost use Rattle.nl_cpfile.specs.Searching.{IsLeastAbove};
 ghost use Rattle.nl_cpfile.specs.Tables as tables;
 

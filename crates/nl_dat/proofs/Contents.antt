@@ -3,8 +3,8 @@ use Rattle.std.proofs.Common.{◌≡◌, ℕ, true, eqb, map, List, [], ◌∷�
 use Rattle.std.specs.Option.{option_map, option_and_then}
 use Rattle.std.proofs.lemmas.Bool.{cases_Bool, eqb-true}
 use Rattle.nl_vstore.specs.Stores.{moved_to}
-use Rattle.nl_types.specs.PartialMaps.{Partial, put, put_all, put_each, adjust, adjust_all, adjust_each, Stands}
-use Rattle.nl_types.specs.Entries.{Birth, number_of, born_at, ended_at}
+use Rattle.nl_types.specs.Blocks.PartialMaps.{Partial, put, put_all, put_each, adjust, adjust_all, adjust_each, Stands}
+use Rattle.nl_types.specs.Blocks.Entries.{Birth, number_of, born_at, ended_at}
 use Rattle.nl_types.specs.Facts.PartialMaps.{same_at_all, put-other}
 use Rattle.nl_dat.specs.declared.entries.DatEntry.{DatEntry}
 use Rattle.nl_dat.specs.Table.{block_of, addresses_of, meaning_of, meaning_at, content_of, HaveOwnPayload, new_entry, ended_entry, moved_entry, stored_at}

@@ -2,7 +2,7 @@
 use Rattle.std.proofs.Common.{◌≡◌, ◌≤◌, ◌<◌, ℕ, zero, suc, ◌+◌, ◌*◌, List, Option, Some, None, sym, refl, ap, ◌∙◌, length, is_some, arith}
 use Rattle.std.specs.Prelude.{slice_get, slice_index_or}
 use Rattle.std.proofs.Math.Nat.{mul-le-mul_right}
-use Rattle.nl_types.specs.Segments.{AreTidy, info_of}
+use Rattle.nl_types.specs.Blocks.Segments.{AreTidy, info_of}
 use Rattle.nl_types.specs.Facts.SegmentChanges.{room_of}
 use Rattle.nl_device.specs.Failures.{Failures}
 use Rattle.nl_space.specs.Content.{Payload, SpaceContent}

@@ -9,10 +9,10 @@ use Rattle.std.proofs.lemmas.List.{length-append}
 use Rattle.std.proofs.lemmas.List.Folds.{list_any-append}
 use Rattle.std.proofs.lemmas.Map.Made.{length-le_from_is_member}
 use Rattle.nl_types.specs.declared.segment.SegmentInfo.{SegmentInfo}
-use Rattle.nl_types.specs.Segments.{Segments, info_of, IsUsed, used_in, used_blocks}
-use Rattle.nl_types.specs.Placing.{blocks_from}
-use Rattle.nl_types.specs.PartialMaps.{Partial}
-use Rattle.nl_types.specs.Entries.{Birth, Content, number_of}
+use Rattle.nl_types.specs.Blocks.Segments.{Segments, info_of, IsUsed, used_in, used_blocks}
+use Rattle.nl_types.specs.Blocks.Placing.{blocks_from}
+use Rattle.nl_types.specs.Blocks.PartialMaps.{Partial}
+use Rattle.nl_types.specs.Blocks.Entries.{Birth, Content, number_of}
 use Rattle.nl_sufile.specs.BySegment.{count_to}
 use Rattle.nl_vstore.specs.Batches.{is_born, is_taken}
 

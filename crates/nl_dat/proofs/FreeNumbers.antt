@@ -3,19 +3,19 @@ use Rattle.std.proofs.Common.{◌≡◌, ℕ, ◌+◌, ◌<◌, ◌≤◌, true,
 use Rattle.std.specs.Prelude.{Bool, ◌||◌, max}
 use Rattle.std.specs.Option.{option_map}
 use Rattle.std.proofs.lemmas.Bool.{cases_Bool, cases_lt}
-use Rattle.nl_types.specs.Segments.{AreTidy, total_blocks}
+use Rattle.nl_types.specs.Blocks.Segments.{AreTidy, total_blocks}
 use Rattle.nl_types.specs.declared.segment.Log.{Log}
-use Rattle.nl_types.specs.Placing as placing
-use Rattle.nl_types.specs.PlacingLaws.{WhatFitsHasRoom}
-use Rattle.nl_types.specs.PartialMaps.{Partial}
-use Rattle.nl_types.specs.Entries.{Content}
+use Rattle.nl_types.specs.Blocks.Placing as placing
+use Rattle.nl_types.specs.Blocks.PlacingLaws.{WhatFitsHasRoom}
+use Rattle.nl_types.specs.Blocks.PartialMaps.{Partial}
+use Rattle.nl_types.specs.Blocks.Entries.{Content}
 use Rattle.nl_device.specs.Failures.{Failures}
 use Rattle.nl_space.specs.Content.{SpaceContent}
 use Rattle.nl_dat.specs.declared.entries.DatEntry.{DatEntry}
 use Rattle.nl_vstore.specs.Batches.{LacksSpaceFrom, Changes, CanBeTaken, IsLowestFree, is_born, is_taken, last_number}
 use Rattle.nl_dat.specs.Table.{AreInUse, IsFirstFree, entry_in, addresses_of, block_of}
 use Rattle.nl_vstore.specs.Stores.{content_in}
-use Rattle.nl_dat.specs.Inside.{births_in, store_of, IsTable}
+use Rattle.nl_dat.specs.Inside.{births_in, store_of, IsDatTable}
 use Rattle.nl_dat.proofs.SoundTable.{is_some-content_of, HaveOwnPayload-apart}
 use Rattle.nl_dat.proofs.StoreOf.{content_in-store_of}
 use Rattle.nl_dat.proofs.Counting.{taken-need-blocks}
@@ -29,7 +29,7 @@ is_some-addresses_of entries v = of_entry (entries v)
     of_entry (Some e) = refl
 
 module _ (table : List (Option DatEntry)) (lowest : ℕ) (space : SpaceContent) (failures : Failures)
-    (changes : Changes) (is_table : IsTable table lowest space)
+    (changes : Changes) (is_table : IsDatTable table lowest space)
     (fits : CanBeTaken (total_blocks space.segments)
     (content_in (store_of table space failures)) changes) where
   abbrev pub content : Content

@@ -5,18 +5,18 @@ use Rattle.std.specs.Option.{option_map}
 use Rattle.std.proofs.Math.Nat.{mul-le-mul_right}
 use Rattle.std.proofs.lemmas.Bool.{cases_lt}
 use Rattle.std.proofs.lemmas.List.{length-append, length-replicate}
-use Rattle.nl_types.specs.Segments.{IsUsed, Segments, grown_to, total_blocks}
-use Rattle.nl_types.specs.GrowingLaws.{UsedStays}
-use Rattle.nl_types.specs.Entries.{Birth, number_of}
-use Rattle.nl_types.specs.PartialMaps.{Partial}
+use Rattle.nl_types.specs.Blocks.Segments.{IsUsed, Segments, grown_to, total_blocks}
+use Rattle.nl_types.specs.Blocks.GrowingLaws.{UsedStays}
+use Rattle.nl_types.specs.Blocks.Entries.{Birth, number_of}
+use Rattle.nl_types.specs.Blocks.PartialMaps.{Partial}
 use Rattle.nl_types.specs.Facts.UsedParts.{used_inside}
-use Rattle.nl_types.specs.Segments.{AreTidy}
+use Rattle.nl_types.specs.Blocks.Segments.{AreTidy}
 use Rattle.nl_device.specs.Failures.{Failures}
 use Rattle.nl_space.specs.Content.{HoldsOnlyUsed, IsGrown, Payload, SpaceContent, payload_page}
 use Rattle.nl_vstore.specs.Batches.{birth_of_item}
 use Rattle.nl_vstore.specs.Stores.{HasGrown, device_in, numbered_in, payload_in}
 use Rattle.nl_dat.specs.declared.entries.DatEntry.{DatEntry}
-use Rattle.nl_dat.specs.Inside.{IsTable, births_in, numbered_of, store_of}
+use Rattle.nl_dat.specs.Inside.{IsDatTable, births_in, numbered_of, store_of}
 use Rattle.nl_dat.specs.Table.{addresses_of, block_of, entry_in}
 use Rattle.nl_dat.specs.Facts.ShownSpace.{none-payload, shown}
 use Rattle.nl_dat.proofs.StoreOf.{numbered_in-store_of}
@@ -37,7 +37,7 @@ front (entry ∷ table) more = ap (λ (rest : List (Option DatEntry)). entry ∷
 
 module _ (table : List (Option DatEntry)) (lowest segments : ℕ) (old later : SpaceContent)
     (before after : Failures)
-    (is_table : IsTable table lowest old) (tidy : AreTidy old.segments) (used_stays : UsedStays)
+    (is_table : IsDatTable table lowest old) (tidy : AreTidy old.segments) (used_stays : UsedStays)
     (only : HoldsOnlyUsed old)
     (more : length old.segments.each ≤ segments) (grown : IsGrown segments old later) where
   abbrev count : ℕ
@@ -68,7 +68,7 @@ module _ (table : List (Option DatEntry)) (lowest segments : ℕ) (old later : S
   used b is =
       subst (λ (s : Segments). IsUsed s b) (sym grown.segments) ((used_stays segments b old.segments).0 is)
 
-  pub table-grown : IsTable new lowest later
+  pub table-grown : IsDatTable new lowest later
   table-grown = record {
     full = rw (length-append, length-replicate) (omega (arith, is_table.full, total, most));
     zero_unused = same 0 ∙ is_table.zero_unused;

@@ -4,8 +4,8 @@ use Rattle.std.specs.Prelude.{slice_get, slice_index_or}
 use Rattle.std.specs.Option.{option_map, option_and_then}
 use Rattle.std.proofs.lemmas.Bool.{cases_lt}
 use Rattle.std.proofs.lemmas.Bool.Decides.{nat_tests}
-use Rattle.nl_types.specs.Segments.{Segments, AreTidy, info_of}
-use Rattle.nl_types.specs.Entries.{number_of}
+use Rattle.nl_types.specs.Blocks.Segments.{Segments, AreTidy, info_of}
+use Rattle.nl_types.specs.Blocks.Entries.{number_of}
 use Rattle.nl_layout.specs.declared.tag.Tag.{Tag}
 use Rattle.nl_space.specs.Content.{Payload, SpaceContent, payload_tag, payload_page}
 use Rattle.nl_dat.specs.declared.entries.DatEntry.{DatEntry}

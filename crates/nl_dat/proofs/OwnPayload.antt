@@ -8,16 +8,16 @@ use Rattle.std.proofs.Props.{props}
 use Rattle.std.proofs.lemmas.Bool.{cases_eq, cases_lt}
 use Rattle.std.proofs.lemmas.List.{get_or_past, length-map}
 use Rattle.std.proofs.lemmas.Option.{slice_get-map}
-use Rattle.nl_types.specs.Entries.{number_of}
-use Rattle.nl_types.specs.PartialMaps.{Partial}
-use Rattle.nl_types.specs.Segments.{Segments, IsUsed, info_of}
+use Rattle.nl_types.specs.Blocks.Entries.{number_of}
+use Rattle.nl_types.specs.Blocks.PartialMaps.{Partial}
+use Rattle.nl_types.specs.Blocks.Segments.{Segments, IsUsed, info_of}
 use Rattle.nl_sufile.specs.Table.{IsSegTable}
 use Rattle.nl_space.specs.Content.{HeldPayload, IsRowOf, Payload, SpaceContent, payload_page}
 use Rattle.nl_space.specs.Logs.{AreWholeLogs, FillUpTo, WholeLog}
 use Rattle.nl_vstore.specs.Batches.{birth_of_item, number_of_payload}
 use Rattle.nl_dat.specs.declared.entries.DatEntry.{DatEntry}
 use Rattle.nl_dat.specs.Images.{HasOwn, IsTableOver}
-use Rattle.nl_dat.specs.Inside.{IsTable, births_in}
+use Rattle.nl_dat.specs.Inside.{IsDatTable, births_in}
 use Rattle.nl_dat.specs.Table.{HaveOwnPayload, addresses_of, block_of, entry_in}
 use Rattle.nl_dat.specs.Facts.Positions.{held-row, position-used}
 
@@ -143,7 +143,7 @@ stored_used c b p whole (place, at, used) held =
 -- the table is sound, where no number is known to be filled
 pub restored_table : (table : List (Option DatEntry)) (space : SpaceContent)
     → IsTableOver table space.segments → AreWholeLogs space
-    → HaveOwnPayload (addresses_of (entry_in table)) (births_in space) → IsTable table 1 space
+    → HaveOwnPayload (addresses_of (entry_in table)) (births_in space) → IsDatTable table 1 space
 restored_table table space is whole own = record {
   full = is.full;
   zero_unused = is.zero_unused;

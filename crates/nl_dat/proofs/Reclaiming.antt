@@ -5,10 +5,10 @@ use Rattle.std.specs.Option.{option_map}
 use Rattle.std.proofs.lemmas.Bool.{cases_Bool, cases_eq, cases_lt}
 use Rattle.std.proofs.lemmas.Bool.Decides.{nat_tests}
 use Rattle.std.proofs.lemmas.List.{length-set, get_or-set_other}
-use Rattle.nl_types.specs.Segments.{Segments, AreTidy, IsUsed, info_of, clean_info, with_clean, total_blocks}
+use Rattle.nl_types.specs.Blocks.Segments.{Segments, AreTidy, IsUsed, info_of, clean_info, with_clean, total_blocks}
 use Rattle.nl_types.specs.Facts.SegmentChanges.{room_of}
-use Rattle.nl_types.specs.PartialMaps.{Partial}
-use Rattle.nl_types.specs.Entries.{number_of}
+use Rattle.nl_types.specs.Blocks.PartialMaps.{Partial}
+use Rattle.nl_types.specs.Blocks.Entries.{number_of}
 use Rattle.nl_device.specs.Failures.{Failures}
 use Rattle.nl_space.specs.Content.{SpaceContent, IsFreed, payload_page}
 use Rattle.nl_dat.specs.declared.entries.DatEntry.{DatEntry}
@@ -16,7 +16,7 @@ use Rattle.nl_dat.specs.declared.reclaim.TakenOut.{TakenOut}
 use Rattle.nl_vstore.specs.Batches.{birth_of_item}
 use Rattle.nl_dat.specs.Table.{entry_in, addresses_of, block_of}
 use Rattle.nl_vstore.specs.Stores.{IsReclaimed, numbered_in, is_inside}
-use Rattle.nl_dat.specs.Inside.{births_in, numbered_of, numbered_with, store_of, IsTable}
+use Rattle.nl_dat.specs.Inside.{births_in, numbered_of, numbered_with, store_of, IsDatTable}
 use Rattle.nl_dat.specs.TakenOut.{HasTakenOut, IsAtMost, is_in_row}
 use Rattle.nl_dat.proofs.StoreOf.{numbered_in-store_of, address_in-store_of}
 use Rattle.nl_dat.specs.Facts.Positions.{position-used}
@@ -61,7 +61,7 @@ used-elsewhere s segment b tidy (place, at, used) outside = elim (cases_eq place
 
 module _ (table new : List (Option DatEntry)) (filled filled' segment : ℕ) (old later : SpaceContent)
     (before after : Failures) (taken : TakenOut)
-    (is_table : IsTable table (filled + 1) old) (tidy : AreTidy old.segments)
+    (is_table : IsDatTable table (filled + 1) old) (tidy : AreTidy old.segments)
     (freed : IsFreed segment old later)
     (out : HasTakenOut (segment * old.segments.blocks)
     (info_of old.segments.each segment).used table new taken)
@@ -115,7 +115,7 @@ module _ (table new : List (Option DatEntry)) (filled filled' segment : ℕ) (ol
       ap total_blocks freed.segments
       ∙ ap (λ (n : ℕ). n * old.segments.blocks) (length-set old.segments.each segment clean_info)
 
-  pub table-reclaimed : IsTable new (filled' + 1) later
+  pub table-reclaimed : IsDatTable new (filled' + 1) later
   table-reclaimed = record {
     full = out.size ∙ is_table.full ∙ ap (λ n. n + 1) (sym total);
     zero_unused =

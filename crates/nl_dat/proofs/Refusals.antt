@@ -6,8 +6,8 @@ use Rattle.std.specs.Option.{option_map}
 use Rattle.std.proofs.lemmas.List.{ext_get_or, length-map}
 use Rattle.nl_types.specs.declared.error.VolError.{VolError}
 use Rattle.nl_types.specs.declared.error.VolError.TheVariants.{NoSpace, Fault, Memory}
-use Rattle.nl_types.specs.Segments.{AreTidy, total_blocks}
-use Rattle.nl_types.specs.Placing.{LacksSpace, with_logs}
+use Rattle.nl_types.specs.Blocks.Segments.{AreTidy, total_blocks}
+use Rattle.nl_types.specs.Blocks.Placing.{LacksSpace, with_logs}
 use Rattle.nl_device.specs.Failures.{CountsReads, CountsWrites, FailsToWrite, Failures, failure_count, no_failures}
 use Rattle.nl_space.specs.Content.{Payload, SpaceContent, KeepsUsed}
 use Rattle.nl_space.specs.Appended.{IsAppendError, IsBrokenOff, IsLoadError}
@@ -15,7 +15,7 @@ use Rattle.nl_vstore.specs.Batches.{Changes, items_of}
 use Rattle.nl_dat.specs.declared.entries.DatEntry.{DatEntry}
 use Rattle.nl_dat.specs.Table.{entry_in, addresses_of, block_of}
 use Rattle.nl_vstore.specs.Stores.{Store, IsFaulted, IsGrowthRefused, IsWriteRefused, StaysStored}
-use Rattle.nl_dat.specs.Inside.{births_in, numbered_of, numbered_with, store_of, IsTable}
+use Rattle.nl_dat.specs.Inside.{births_in, numbered_of, numbered_with, store_of, IsDatTable}
 use Rattle.nl_dat.proofs.Contents.{KeepsAt}
 use Rattle.nl_dat.proofs.StoreOf.{numbered_in-store_of}
 use Rattle.nl_dat.specs.Facts.BlockCounts.{total-with_logs, total-with_error}
@@ -63,7 +63,7 @@ numbers-kept table old later keeps =
 
 pub is_faulted : (table : List (Option DatEntry)) (lowest : ℕ) (old later : SpaceContent)
     (before after : Failures) (reserve : Bool) (stamp checkpoint : ℕ) (payload : List Payload)
-    → AreTidy old.segments → IsTable table lowest old → KeepsUsed old.segments old later
+    → AreTidy old.segments → IsDatTable table lowest old → KeepsUsed old.segments old later
     → failure_count before < failure_count after → before.writes < after.writes
     → IsBrokenOff old later reserve stamp checkpoint payload
     → IsFaulted reserve checkpoint stamp payload (store_of table old before) (store_of table later after)

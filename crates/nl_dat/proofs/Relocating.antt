@@ -6,10 +6,10 @@ use Rattle.std.proofs.lemmas.Bool.{cases_Bool}
 use Rattle.std.proofs.lemmas.List.{length-map}
 use Rattle.nl_types.specs.declared.error.VolError.{VolError}
 use Rattle.nl_types.specs.declared.error.VolError.TheVariants.{NoSpace, Fault, Memory}
-use Rattle.nl_types.specs.Segments.{AreTidy, IsUsed, StaysUsed, total_blocks, IsClosed}
-use Rattle.nl_types.specs.Placing.{LacksSpace}
-use Rattle.nl_types.specs.Entries.{Birth, Content}
-use Rattle.nl_types.specs.PartialMaps.{Partial, adjust, adjust_each, Stands}
+use Rattle.nl_types.specs.Blocks.Segments.{AreTidy, IsUsed, StaysUsed, total_blocks, IsClosed}
+use Rattle.nl_types.specs.Blocks.Placing.{LacksSpace}
+use Rattle.nl_types.specs.Blocks.Entries.{Birth, Content}
+use Rattle.nl_types.specs.Blocks.PartialMaps.{Partial, adjust, adjust_each, Stands}
 use Rattle.nl_types.specs.Facts.PartialMaps.{is_one_of-get_or}
 use Rattle.nl_device.specs.Failures.{Failures, CountsReads, FailsToRead, FailsToWrite}
 use Rattle.nl_space.specs.Content.{Payload, SpaceContent, KeepsUsed, payload_page}
@@ -18,7 +18,7 @@ use Rattle.nl_dat.specs.declared.entries.DatEntry.{DatEntry}
 use Rattle.nl_vstore.specs.Batches.{birth_of_item, births_of, item_of_birth, items_of, tag_for}
 use Rattle.nl_dat.specs.Table.{entry_in, addresses_of, block_of, content_of, meaning_at, meaning_of, moved_entry, stored_at, HaveOwnPayload}
 use Rattle.nl_vstore.specs.Stores.{IsMoved, IsMoveRefused, IsPayloadOf, KeepsStored, is_inside, moved_to, address_in, payload_for, payload_under}
-use Rattle.nl_dat.specs.Inside.{births_in, numbered_of, store_of, IsTable}
+use Rattle.nl_dat.specs.Inside.{births_in, numbered_of, store_of, IsDatTable}
 use Rattle.nl_dat.proofs.Contents.{KeepsAt, content_of-KeepsAt, HaveOwnPayload-KeepsAt, content_of-moves, addresses_of-moves, HaveOwnPayload-moves}
 use Rattle.nl_dat.proofs.StoreOf.{content_in-store_of, address_in-store_of}
 use Rattle.nl_vstore.specs.Facts.ClosedSegments.{fits-outside}
@@ -81,7 +81,7 @@ none_of (Some x) h = cc
 -- what was read is what the numbers stand for
 pub theirs-of : (table : List (Option DatEntry)) (lowest : ℕ) (space : SpaceContent) (failures : Failures)
     (numbers : List ℕ) (items : List Payload)
-    → IsTable table lowest space
+    → IsDatTable table lowest space
     → map (stored_at (entry_in table) (births_in space)) numbers ≡ map Some (births_of items)
     → IsPayloadOf (store_of table space failures) numbers items
 theirs-of table lowest space failures numbers items is_table loaded =
@@ -108,7 +108,7 @@ theirs-of table lowest space failures numbers items is_table loaded =
 
 module _ (table new : List (Option DatEntry)) (lowest : ℕ) (old later : SpaceContent)
     (before after : Failures) (c now segment : ℕ) (numbers at : List ℕ) (items : List Payload)
-    (is_table : IsTable table lowest old)
+    (is_table : IsDatTable table lowest old)
     (loaded : map (stored_at (entry_in table) (births_in old)) numbers ≡ map Some (births_of items))
     (appended : IsAppended old later false now c items at) (kept : KeepsUsed old.segments old later)
     (stays : StaysUsed old.segments later.segments)
@@ -180,7 +180,7 @@ module _ (table new : List (Option DatEntry)) (lowest : ℕ) (old later : SpaceC
       ap (λ (m : Partial DatEntry). is_some (m v)) is_new
       ∙ adjust_each-is_some moved_entry numbers at (entry_in table) v
 
-  pub table-moved : IsTable new lowest later
+  pub table-moved : IsDatTable new lowest later
   table-moved = record {
     full = size ∙ is_table.full ∙ ap (λ n. n + 1) (sym total);
     zero_unused = none_of (entry_in new 0) (in_use-now 0 ∙ ap is_some is_table.zero_unused);
@@ -261,7 +261,7 @@ pub record IsRelocationRefusal (reserve : Bool) (stamp checkpoint : ℕ) (payloa
 pub move-refused : (table : List (Option DatEntry)) (lowest : ℕ) (old later : SpaceContent)
     (before between after : Failures) (checkpoint stamp : ℕ) (numbers : List ℕ) (payload : List Payload)
     (e : VolError)
-    → AreTidy old.segments → IsTable table lowest old
+    → AreTidy old.segments → IsDatTable table lowest old
     → IsPayloadOf (store_of table old before) numbers payload → KeepsUsed old.segments old later
     → CountsReads before between
     → IsRelocationRefusal false stamp checkpoint payload e old later between after

@@ -8,7 +8,7 @@ use Rattle.std.proofs.lemmas.List.{get_or_past}
 use Rattle.std.proofs.lemmas.List.Elements.{All-from_recursion}
 use Rattle.std.proofs.lemmas.Nat.{div-mul-add}
 use Rattle.nl_types.specs.declared.segment.SegmentInfo.{SegmentInfo}
-use Rattle.nl_types.specs.Segments.{IsTidy, IsUsed, Segments, clean_info}
+use Rattle.nl_types.specs.Blocks.Segments.{IsTidy, IsUsed, Segments, clean_info}
 use Rattle.nl_sufile.specs.Table.{IsSegTable}
 use Rattle.nl_vstore.specs.Stores.{IsStore, Store, address_in, is_inside}
 use Rattle.nl_vstore.specs.Counts.{IsSegmentOf}

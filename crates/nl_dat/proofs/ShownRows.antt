@@ -3,8 +3,8 @@ use Rattle.std.proofs.Common.{◌≡◌, ℕ, suc, ◌+◌, ◌*◌, ◌<◌, �
 use Rattle.std.specs.Prelude.{slice_get}
 use Rattle.std.proofs.Math.Nat.{mul-le-mul_right}
 use Rattle.std.proofs.lemmas.Option.{same_Some}
-use Rattle.nl_types.specs.Segments.{AreTidy, info_of}
-use Rattle.nl_types.specs.Placing.{blocks_from}
+use Rattle.nl_types.specs.Blocks.Segments.{AreTidy, info_of}
+use Rattle.nl_types.specs.Blocks.Placing.{blocks_from}
 use Rattle.nl_types.specs.Facts.SegmentChanges.{room_of}
 use Rattle.nl_device.specs.Failures.{Failures}
 use Rattle.nl_space.specs.Content.{HeldPayload, Payload, SpaceContent}

@@ -1,8 +1,8 @@
 -- What a sound table says of each number in use.
 use Rattle.std.proofs.Common.{◌≡◌, ℕ, Some, None, sym, refl, ap, ◌∙◌, is_some}
 use Rattle.std.specs.Option.{option_map, option_and_then}
-use Rattle.nl_types.specs.PartialMaps.{Partial}
-use Rattle.nl_types.specs.Entries.{Birth, number_of}
+use Rattle.nl_types.specs.Blocks.PartialMaps.{Partial}
+use Rattle.nl_types.specs.Blocks.Entries.{Birth, number_of}
 use Rattle.nl_dat.specs.declared.entries.DatEntry.{DatEntry}
 use Rattle.nl_dat.specs.Table.{block_of, addresses_of, meaning_of, meaning_at, content_of, HaveOwnPayload}
 

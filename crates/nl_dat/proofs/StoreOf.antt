@@ -5,10 +5,10 @@ use Rattle.std.specs.Option.{option_map, option_and_then}
 use Rattle.std.proofs.Math.ListN.{get_or-map}
 use Rattle.std.proofs.lemmas.List.{get_or_past, length-map, length-replicate}
 use Rattle.std.proofs.lemmas.Bool.{cases_lt}
-use Rattle.nl_types.specs.Segments.{HaveLogs, total_blocks}
-use Rattle.nl_types.specs.PartialMaps.{Partial}
-use Rattle.nl_types.specs.Entries.{Birth, Entry, number_of, period_of}
-use Rattle.nl_types.specs.Roots.{pages_of}
+use Rattle.nl_types.specs.Blocks.Segments.{HaveLogs, total_blocks}
+use Rattle.nl_types.specs.Blocks.PartialMaps.{Partial}
+use Rattle.nl_types.specs.Blocks.Entries.{Birth, Entry, number_of, period_of}
+use Rattle.nl_types.specs.Blocks.Roots.{pages_of}
 use Rattle.nl_types.specs.Facts.PartialMaps.{same_at_all}
 use Rattle.nl_sufile.specs.Table.{IsSegTable}
 use Rattle.nl_space.specs.Content.{Payload, SpaceContent, HoldsOnlyUsed, payload_page}
@@ -17,7 +17,7 @@ use Rattle.nl_dat.specs.declared.entries.DatEntry.{DatEntry}
 use Rattle.nl_vstore.specs.Batches.{birth_of_item, tag_place, tag_for}
 use Rattle.nl_dat.specs.Table.{entry_in, addresses_of, block_of, content_of, meaning_of, meaning_at, period_of_entry, HaveOwnPayload, dat_entry_of}
 use Rattle.nl_vstore.specs.Stores.{Numbered, new_store, numbered_in, content_in, address_in, entry_now, block_now, payload_for, IsStore, SoundStore}
-use Rattle.nl_dat.specs.Inside.{births_in, numbered_with, numbered_of, store_of, IsTable}
+use Rattle.nl_dat.specs.Inside.{births_in, numbered_with, numbered_of, store_of, IsDatTable}
 use Rattle.nl_types.specs.Facts.UsedParts.{used_inside}
 use Rattle.nl_device.specs.Failures.{Failures, failure_count}
 use Rattle.nl_dat.proofs.SoundTable.{stored_for, HaveOwnPayload-apart}
@@ -113,7 +113,7 @@ module _ (table : List (Option DatEntry)) (space : SpaceContent) (failures : Fai
 -- ---- what is true of every store
 
 module _ (table : List (Option DatEntry)) (lowest : ℕ) (space : SpaceContent) (failures : Failures)
-    (is_table : IsTable table lowest space) (limits : IsSegTable space.segments) where
+    (is_table : IsDatTable table lowest space) (limits : IsSegTable space.segments) where
   address_now : (v b : ℕ) → address_in (store_of table space failures) v ≡ Some b
       → addresses_of (entry_in table) v ≡ Some b
   address_now v b at =
@@ -219,7 +219,7 @@ get_or-empty (suc n) zero = refl
 get_or-empty (suc n) (suc v) = get_or-empty n v
 
 pub table-empty : (table : List (Option DatEntry)) (space : SpaceContent)
-    → table ≡ replicate (total_blocks space.segments + 1) None → IsTable table 1 space
+    → table ≡ replicate (total_blocks space.segments + 1) None → IsDatTable table 1 space
 table-empty table space is = record {
   full = ap length is ∙ length-replicate (total_blocks space.segments + 1) None;
   zero_unused = none 0;

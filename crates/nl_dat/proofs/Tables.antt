@@ -3,7 +3,7 @@ use Rattle.std.proofs.Common.{◌≡◌, ℕ, suc, ◌<◌, ◌+◌, eqb, List, 
 use Rattle.std.specs.List.{All}
 use Rattle.std.proofs.lemmas.List.{get_or_default}
 use Rattle.std.proofs.lemmas.Bool.{cases_Bool, eqb-true, eqb-false}
-use Rattle.nl_types.specs.PartialMaps.{Partial, put, put_each, adjust, adjust_all, adjust_each}
+use Rattle.nl_types.specs.Blocks.PartialMaps.{Partial, put, put_each, adjust, adjust_all, adjust_each}
 use Rattle.nl_types.specs.Facts.PartialMaps.{same_at_all, adjust-some, adjust-none}
 use Rattle.nl_dat.specs.declared.entries.DatEntry.{DatEntry}
 use Rattle.nl_dat.specs.Table.{entry_in}

@@ -6,9 +6,9 @@ use Rattle.std.specs.Option.{option_map, option_and_then}
 use Rattle.std.proofs.lemmas.Bool.{cases_Bool, cases_lt, eqb-true, eq-eqb, or_cases, both_ways}
 use Rattle.std.proofs.lemmas.List.{length-map, get_or_past}
 use Rattle.std.proofs.lemmas.List.Folds.{list_any_at}
-use Rattle.nl_types.specs.Segments.{AreTidy, IsUsed, StaysUsed, total_blocks}
-use Rattle.nl_types.specs.PartialMaps.{Partial, put, put_each, put_all, adjust, adjust_all, Stands}
-use Rattle.nl_types.specs.Entries.{Birth, Content, number_of, born_at, ended_at, written}
+use Rattle.nl_types.specs.Blocks.Segments.{AreTidy, IsUsed, StaysUsed, total_blocks}
+use Rattle.nl_types.specs.Blocks.PartialMaps.{Partial, put, put_each, put_all, adjust, adjust_all, Stands}
+use Rattle.nl_types.specs.Blocks.Entries.{Birth, Content, number_of, born_at, ended_at, written}
 use Rattle.nl_types.specs.Facts.PartialMaps.{put-other, put-same}
 use Rattle.nl_device.specs.Failures.{Failures}
 use Rattle.nl_space.specs.Content.{Payload, SpaceContent, KeepsUsed, payload_page}
@@ -17,7 +17,7 @@ use Rattle.nl_dat.specs.declared.entries.DatEntry.{DatEntry}
 use Rattle.nl_vstore.specs.Batches.{Changes, CanBeTaken, birth_of_item, births_of, items_of, is_born, is_live, last_number}
 use Rattle.nl_dat.specs.Table.{entry_in, addresses_of, content_of, meaning_at, new_entry, ended_entry, HaveOwnPayload}
 use Rattle.nl_vstore.specs.Stores.{IsWritten, content_in, space_in}
-use Rattle.nl_dat.specs.Inside.{births_in, store_of, IsTable}
+use Rattle.nl_dat.specs.Inside.{births_in, store_of, IsDatTable}
 use Rattle.nl_dat.proofs.Contents.{KeepsAt, content_of-KeepsAt, HaveOwnPayload-KeepsAt, content_of-births, addresses_of-births, HaveOwnPayload-births, content_of-ends, addresses_of-ends}
 use Rattle.nl_dat.proofs.StoreOf.{content_in-store_of, address_in-store_of}
 use Rattle.nl_dat.proofs.FreeNumbers.{in_use}
@@ -133,14 +133,14 @@ length-Stands (b ∷ at) (v ∷ values) f stand = ap suc (length-Stands at value
 -- ---- a table over a space that keeps what is used
 
 pub keeps_at : (table : List (Option DatEntry)) (lowest : ℕ) (old later : SpaceContent)
-    → IsTable table lowest old → KeepsUsed old.segments old later
+    → IsDatTable table lowest old → KeepsUsed old.segments old later
     → KeepsAt (addresses_of (entry_in table)) (births_in old) (births_in later)
 keeps_at table lowest old later is_table kept v b is =
     ap (option_map birth_of_item) (kept b (is_table.used v b is)).0
 
 pub table-kept : (table : List (Option DatEntry)) (lowest : ℕ) (old later : SpaceContent)
-    → IsTable table lowest old → KeepsUsed old.segments old later → StaysUsed old.segments later.segments
-    → total_blocks later.segments ≡ total_blocks old.segments → IsTable table lowest later
+    → IsDatTable table lowest old → KeepsUsed old.segments old later → StaysUsed old.segments later.segments
+    → total_blocks later.segments ≡ total_blocks old.segments → IsDatTable table lowest later
 table-kept table lowest old later is_table kept stays total = record {
   full = is_table.full ∙ ap (λ n. n + 1) (sym total);
   zero_unused = is_table.zero_unused;
@@ -160,7 +160,7 @@ table-kept table lowest old later is_table kept stays total = record {
 
 module _ (table new : List (Option DatEntry)) (lowest : ℕ) (old later : SpaceContent)
     (before after : Failures) (c now : ℕ) (changes : Changes) (items : List Payload) (at : List ℕ)
-    (is_table : IsTable table lowest old)
+    (is_table : IsDatTable table lowest old)
     (fits : CanBeTaken (total_blocks old.segments) (content_in (store_of table old before)) changes)
     (items_are : births_of items ≡ changes.births) (appended : IsAppended old later true now c items at)
     (kept : KeepsUsed old.segments old later) (stays : StaysUsed old.segments later.segments)
@@ -244,7 +244,7 @@ module _ (table new : List (Option DatEntry)) (lowest : ℕ) (old later : SpaceC
       ∙ none_of (ended 0)
       (adjust_all-is_some (ended_entry c) changes.ends (entry_in table) 0 ∙ ap is_some is_table.zero_unused)
 
-  pub table-written : IsTable new (max lowest (last_number changes.births + 1)) later
+  pub table-written : IsDatTable new (max lowest (last_number changes.births + 1)) later
   table-written = record {
     full = size ∙ is_table.full ∙ ap (λ n. n + 1) (sym total);
     zero_unused = zero_now;

@@ -1,7 +1,7 @@
 -- Descriptions of the payload blocks of a segment.
 use Rattle.std.specs.Prelude.{ℕ, suc, ◌*◌, List, [], ◌∷◌, ◌++◌, Option, None, Some}
 use Rattle.std.specs.Option.{option_map}
-use Rattle.nl_types.specs.PartialMaps.{Partial}
+use Rattle.nl_types.specs.Blocks.PartialMaps.{Partial}
 use Rattle.nl_layout.specs.declared.tag.Tag.{Tag}
 use Rattle.nl_space.specs.Content.{Payload, payload_tag}
 use Rattle.nl_dat.specs.declared.bdesc.Bdesc.{Bdesc}

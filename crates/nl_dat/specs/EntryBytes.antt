@@ -1,7 +1,7 @@
 -- The bytes of an entry of the table of virtual block numbers: 24 of them, numbers in little endian.
 use Rattle.std.specs.Prelude.{◌≡◌, ℕ, zero, suc, ◌<◌, ◌≤◌, ◌^◌, ◌==◌, if◌then◌else◌, List, ◌++◌, drop, flat_map, replicate, unwrap_or, Option, None, Some}
 use Rattle.byteorder.specs.Endian.{little_bytes, little_number}
-use Rattle.nl_types.specs.Limits.{checkpoint_number_limit}
+use Rattle.nl_types.specs.Plain.Limits.{checkpoint_number_limit}
 use Rattle.nl_dat.specs.declared.entries.DatEntry.{DatEntry}
 
 -- ---- writing

@@ -1,9 +1,9 @@
 -- The table of virtual block numbers in an image.
 use Rattle.std.specs.Prelude.{◌≡◌, ℕ, ◌+◌, ◌*◌, ◌<◌, ◌≤◌, Bool, true, false, List, ◌∷◌, length, take, drop, All, IfSome, slice_index_or, slice_set, Option, None, Some}
 use Rattle.std.specs.Option.{option_map}
-use Rattle.nl_types.specs.Entries.{number_of}
-use Rattle.nl_types.specs.PartialMaps.{Partial}
-use Rattle.nl_types.specs.Segments.{Segments, IsUsed, total_blocks}
+use Rattle.nl_types.specs.Blocks.Entries.{number_of}
+use Rattle.nl_types.specs.Blocks.PartialMaps.{Partial}
+use Rattle.nl_types.specs.Blocks.Segments.{Segments, IsUsed, total_blocks}
 use Rattle.nl_space.specs.Content.{SpaceContent}
 use Rattle.nl_dat.specs.declared.entries.DatEntry.{DatEntry}
 use Rattle.nl_dat.specs.EntryBytes.{HasSpelling, Spells, dat_bytes}

@@ -2,9 +2,9 @@
 use Rattle.std.specs.Prelude.{◌≡◌, ℕ, true, ◌+◌, ◌≤◌, List, length, map, Option, None, Some}
 use Rattle.std.specs.List.{range_with_len}
 use Rattle.std.specs.Option.{option_map, option_and_then}
-use Rattle.nl_types.specs.Segments.{IsUsed, total_blocks}
-use Rattle.nl_types.specs.PartialMaps.{Partial}
-use Rattle.nl_types.specs.Entries.{Birth}
+use Rattle.nl_types.specs.Blocks.Segments.{IsUsed, total_blocks}
+use Rattle.nl_types.specs.Blocks.PartialMaps.{Partial}
+use Rattle.nl_types.specs.Blocks.Entries.{Birth}
 use Rattle.nl_device.specs.Failures.{Failures, failure_count}
 use Rattle.nl_space.specs.Content.{Payload, SpaceContent, payload_page}
 use Rattle.nl_dat.specs.declared.entries.DatEntry.{DatEntry}
@@ -57,7 +57,7 @@ pub record IsBacked (table : List (Option DatEntry)) (space : SpaceContent) : Ty
 
 -- The table has a place for 0, which is never used, and for each number. The payload at the block of a number
 -- is its own, in memory and on the device. Below the lowest number that may be free all are in use.
-pub record IsTable (table : List (Option DatEntry)) (lowest : ℕ) (space : SpaceContent) : Type 0 where
+pub record IsDatTable (table : List (Option DatEntry)) (lowest : ℕ) (space : SpaceContent) : Type 0 where
   pub full : length table ≡ total_blocks space.segments + 1
   pub zero_unused : entry_in table 0 ≡ None
   pub sound : HaveOwnPayload (addresses_of (entry_in table)) (births_in space)

@@ -5,12 +5,12 @@ use Rattle.std.proofs.Props.{props}
 use Rattle.std.proofs.Math.Nat.{mul-le-mul_right}
 use Rattle.std.proofs.lemmas.Bool.{cases_lt}
 use Rattle.nl_types.specs.declared.segment.Position.{Position}
-use Rattle.nl_types.specs.Segments.{Segments, AreTidy, IsUsed, block_at, info_of}
+use Rattle.nl_types.specs.Blocks.Segments.{Segments, AreTidy, IsUsed, block_at, info_of}
 use Rattle.nl_types.specs.Facts.SegmentChanges.{room_of}
 use Rattle.nl_space.specs.Content.{SpaceContent}
 use Rattle.nl_dat.specs.declared.entries.DatEntry.{DatEntry}
 use Rattle.nl_vstore.specs.Stores.{Store, IsStore}
-use Rattle.nl_dat.specs.Inside.{IsTable}
+use Rattle.nl_dat.specs.Inside.{IsDatTable}
 
 -- two proofs of one fact
 same_fact : {A : Type 0} → (x y : A) → IsProp A → x ≡ y
@@ -71,9 +71,9 @@ IsStore-prop {s} x y = λ i. record {
 }
 
 -- and so is a table over tidy segments
-pub IsTable-prop : {table : List (Option DatEntry)} {lowest : ℕ} {space : SpaceContent}
-    → AreTidy space.segments → IsProp (IsTable table lowest space)
-IsTable-prop {table} {lowest} {space} tidy x y = λ i. record {
+pub IsDatTable-prop : {table : List (Option DatEntry)} {lowest : ℕ} {space : SpaceContent}
+    → AreTidy space.segments → IsProp (IsDatTable table lowest space)
+IsDatTable-prop {table} {lowest} {space} tidy x y = λ i. record {
   full = same_fact x.full y.full (Prim.hlevel props) i;
   zero_unused = same_fact x.zero_unused y.zero_unused (Prim.hlevel props) i;
   sound = same_fact x.sound y.sound (Prim.hlevel props) i;

@@ -1,8 +1,8 @@
 -- The table of virtual block numbers over the payload that is stored.
 use Rattle.std.specs.Prelude.{◌≡◌, ◌≢◌, ℕ, ◌<◌, ◌≤◌, ◌==◌, Bool, true, false, List, length, drop, map, is_some, slice_index_or, MatchOption, Option, None, Some}
 use Rattle.std.specs.Option.{option_map, option_and_then}
-use Rattle.nl_types.specs.PartialMaps.{Partial}
-use Rattle.nl_types.specs.Entries.{Birth, Entry, Content, number_of}
+use Rattle.nl_types.specs.Blocks.PartialMaps.{Partial}
+use Rattle.nl_types.specs.Blocks.Entries.{Birth, Entry, Content, number_of}
 use Rattle.nl_vstore.specs.Stores.{Numbered, Store}
 use Rattle.nl_dat.specs.declared.entries.DatEntry.{DatEntry}
 use Rattle.nl_types.specs.declared.period.Period.{Period}

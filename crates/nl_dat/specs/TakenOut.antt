@@ -1,7 +1,7 @@
 -- Numbers taken out of use, block by block of a row.
 use Rattle.std.specs.Prelude.{◌≡◌, ◌≢◌, ℕ, ◌+◌, ◌<◌, ◌≤◌, ◌&&◌, nat_le, nat_lt, Bool, true, false, if◌then◌else◌, List, length, slice_index_or, slice_set, Option, None, Some}
-use Rattle.nl_types.specs.NumberLists.{is_one_of, NoneTwice}
-use Rattle.nl_types.specs.PartialMaps.{Partial}
+use Rattle.nl_types.specs.Plain.NumberLists.{is_one_of, NoneTwice}
+use Rattle.nl_types.specs.Blocks.PartialMaps.{Partial}
 use Rattle.std.specs.Option.{option_map}
 use Rattle.nl_space.specs.Content.{Payload}
 use Rattle.nl_vstore.specs.Batches.{number_of_payload}

@@ -2,8 +2,8 @@
 ghost use Rattle.std.specs.Prelude.{◌≡◌, ◌↔◌, ◌⊎◌, ℕ, ◌+◌, ◌*◌, ◌<◌, ◌≤◌, length, IfErr, IfOk, OnErr, OnOk, IsErr, IsErrOf, IsOkUnless, Some};
 ghost use Rattle.std.specs.Option.{option_map};
 ghost use Rattle.nl_vstore.specs.Stores.{IsStore};
-ghost use Rattle.nl_dat.specs.Inside.{store_of, IsTable};
-ghost use Rattle.nl_dat.specs.OneProof.{IsStore-prop, IsTable-prop};
+ghost use Rattle.nl_dat.specs.Inside.{store_of, IsDatTable};
+ghost use Rattle.nl_dat.specs.OneProof.{IsStore-prop, IsDatTable-prop};
 
 use crate::bdesc::{Bdesc, describe_row};
 use crate::entries::{
@@ -16,10 +16,9 @@ use crate::reclaim::take_out;
 use nl_layout::Tag;
 use nl_space::{Payload, Space};
 use nl_sufile::SegTable;
-use nl_types::laws::{growing_keeps_segments, payload_goes_to_unused_blocks};
 use nl_types::{
     CheckpointNumber, Items, Page, Period, Segment, VirtualNumber, VolError, add_places,
-    empty_places,
+    empty_places, laws,
 };
 use nl_vstore::{Batch, VRead, Vstore};
 use std::alloc::{AllocError, Global};
@@ -35,7 +34,7 @@ pub struct Dat<S: Space> {
     filled: u64,
     space: S,
     ghost sound: { IsStore (store_of table (S.content space) (S.failed space)) } by { IsStore-prop },
-    ghost tabled: { IsTable table (filled + 1) (S.content space) } by { IsTable-prop sound.limits.tidy },
+    ghost tabled: { IsDatTable table (filled + 1) (S.content space) } by { IsDatTable-prop sound.limits.tidy },
 }
 
 impl<S: Space> Model for Dat<S> {
@@ -182,7 +181,7 @@ impl<S: Space> Dat<S> {
 }
 
 impl<S: Space> VRead for Dat<S> {
-    ghost use Rattle.nl_types.specs.Roots.{pages_of};
+    ghost use Rattle.nl_types.specs.Blocks.Roots.{pages_of};
     ghost use Rattle.nl_vstore.specs.Stores.{content_in};
     ghost use Rattle.nl_vstore.specs.Periods.{periods_of};
 
@@ -220,7 +219,7 @@ impl<S: Space> Vstore for Dat<S> {
 
     fn fresh(&self, batch: &Batch) -> Result<VirtualNumber, VolError> {
         // Where a list of logs fits, its payload finds blocks that no number has.
-        payload_goes_to_unused_blocks();
+        laws::payload_goes_to_unused_blocks();
         prove!(batch.births().len() < 1 << 60);
         let first = self.filled.max(batch.last_number().get()) + 1;
         first_free(self.table.as_slice(), first).ok_or(VolError::NoSpace)
@@ -234,7 +233,7 @@ impl<S: Space> Vstore for Dat<S> {
         now: u64,
     ) -> Result<(), VolError> {
         // Where a list of logs fits the births, no number is above those that there are.
-        payload_goes_to_unused_blocks();
+        laws::payload_goes_to_unused_blocks();
         let numbers = self
             .space
             .append(alloc, batch.births(), checkpoint, now, true)?;
@@ -301,7 +300,7 @@ impl<S: Space> Vstore for Dat<S> {
     }
 
     fn grow(&mut self, alloc: Global, segments: u32) -> Result<(), VolError> {
-        growing_keeps_segments();
+        laws::growing_keeps_segments();
         let count = self.table.len();
         let blocks = segments * self.space.table().blocks();
         add_places(&mut self.table, alloc, blocks as usize + 1)?;

@@ -1,8 +1,8 @@
 //! The table of virtual block numbers, as a slice.
 ghost use Rattle.std.specs.Prelude.{◌≡◌, ◌/◌, ◌<◌, ◌≤◌, ◌-◌, ◌++◌, OnErr, OnOk, length, replicate, slice_index_or, MatchOption, IfOk, None};
 ghost use Rattle.std.specs.List.{All};
-ghost use Rattle.nl_types.specs.PartialMaps.{put, put_each, adjust, adjust_all, adjust_each};
-ghost use Rattle.nl_types.specs.Entries.{number_of};
+ghost use Rattle.nl_types.specs.Blocks.PartialMaps.{put, put_each, adjust, adjust_all, adjust_each};
+ghost use Rattle.nl_types.specs.Blocks.Entries.{number_of};
 ghost use Rattle.nl_vstore.specs.Batches.{births_of, number_of_payload};
 ghost use Rattle.std.specs.Option.{option_map};
 ghost use Rattle.nl_dat.specs.Table.{AreInUse, IsNumberWith, addresses_of, IsFirstFree, entry_in, new_entry, ended_entry, moved_entry};

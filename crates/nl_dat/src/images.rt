@@ -2,8 +2,8 @@
 ghost use Rattle.std.specs.Prelude.{◌≡◌, ◌↔◌, ◌⊎◌, ◌+◌, ◌*◌, ◌<◌, ◌≤◌, All, IfErr, IfOk, IfSome, IsTrue, List, MatchResult, Option, Some, false, length, replicate};
 ghost use Rattle.std.specs.Bool.{OnFalse, OnTrue};
 ghost use Rattle.std.specs.Option.{option_map};
-ghost use Rattle.nl_types.specs.Entries.{number_of};
-ghost use Rattle.nl_types.specs.Segments.{IsUsed, total_blocks};
+ghost use Rattle.nl_types.specs.Blocks.Entries.{number_of};
+ghost use Rattle.nl_types.specs.Blocks.Segments.{IsUsed, total_blocks};
 ghost use Rattle.nl_dat.specs.declared.entries.DatEntry.{DatEntry};
 ghost use Rattle.nl_dat.specs.EntryBytes.{dat_bytes};
 ghost use Rattle.nl_dat.specs.Images.{AreEntriesOf, HasOwn, HasPeriod, HasTakenBlock, IsDatOf, IsEntryAt, IsSoundNumber, IsTableOf, IsTableOver, TakesBlock, entry_told, table_of};

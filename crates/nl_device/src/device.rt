@@ -1,7 +1,7 @@
 //! What the layers above know of a device.
 ghost use Rattle.std.specs.Prelude.{◌≡◌, ◌*◌, ◌<◌, ◌≤◌, Some, OnOk, OnErr, IfOk, IsErrOf};
 ghost use Rattle.nl_types.specs.declared.geometry.Geometry.{Geometry};
-ghost use Rattle.nl_types.specs.Limits.{IsGeometry};
+ghost use Rattle.nl_types.specs.Plain.Limits.{IsGeometry};
 ghost use Rattle.nl_device.specs.Failures.{Failures, CountsReads, CountsWrites, FailsToRead, FailsToWrite, failure_count};
 ghost use Rattle.nl_device.specs.Pages.{DevicePages, KeepsBelow, KeepsOthers, ClearsBlocks, SamePages};
 

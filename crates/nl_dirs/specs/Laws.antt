@@ -2,8 +2,8 @@
 use Rattle.std.specs.Prelude.{◌≡◌, ◌≢◌, ℕ, ◌≤◌, ◌+◌, List, Option, None, Some}
 use Rattle.std.specs.List.{slice_get}
 use Rattle.std.specs.declared.cmp.Ordering.TheVariants.{Less}
-use Rattle.nl_types.specs.Paths.{Name, name_cmp}
-use Rattle.nl_types.specs.Roots.{Blocks}
+use Rattle.nl_types.specs.Plain.Paths.{Name, name_cmp}
+use Rattle.nl_types.specs.Blocks.Roots.{Blocks}
 use Rattle.nl_dirs.specs.declared.record.Record.{Record}
 use Rattle.nl_dirs.specs.Records.{AllHaveSpelling, NamesAscend, AreBytes, HoldsList, entry_of, packed_block, sizes}
 use Rattle.nl_dirs.specs.Packing.{IsPacked, Packs}

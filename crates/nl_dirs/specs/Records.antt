@@ -7,8 +7,8 @@ use Rattle.std.specs.Prelude.{◌≡◌, ◌≢◌, ℕ, ◌+◌, ◌-◌, ◌<�
 use Rattle.std.specs.List.{All, AllPairs, flat_map}
 use Rattle.std.specs.declared.cmp.Ordering.TheVariants.{Less}
 use Rattle.byteorder.specs.Endian.{little_bytes}
-use Rattle.nl_types.specs.Limits.{name_limit}
-use Rattle.nl_types.specs.Paths.{Name, name_cmp, same_name}
+use Rattle.nl_types.specs.Plain.Limits.{name_limit}
+use Rattle.nl_types.specs.Plain.Paths.{Name, name_cmp, same_name}
 use Rattle.nl_types.specs.declared.kind.Kind.{Kind}
 use Rattle.nl_types.specs.declared.kind.Kind.TheVariants.{File, Directory}
 use Rattle.nl_dirs.specs.declared.record.Record.{Record}

@@ -3,7 +3,7 @@ ghost use Rattle.std.specs.Prelude.{◌≡◌, List, IfOk, IfErr, IfSome, MatchO
 ghost use Rattle.std.specs.Option.{option_map};
 ghost use Rattle.std.specs.declared.cmp.Ordering.TheVariants.{Less};
 ghost use Rattle.nl_types.specs.declared.error.VolError;
-ghost use Rattle.nl_types.specs.Paths.{name_cmp, same_name};
+ghost use Rattle.nl_types.specs.Plain.Paths.{name_cmp, same_name};
 ghost use Rattle.nl_dirs.specs.declared.record.Record.{Record};
 ghost use Rattle.nl_dirs.specs.Records.{NamesAscend, AreBytes, HoldsList, IsPageOf, entry_of};
 ghost use Rattle.nl_dirs.specs.Listings.{first_name_of};

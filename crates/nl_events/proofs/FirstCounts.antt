@@ -4,9 +4,9 @@ use Rattle.std.specs.Prelude.{◌||◌}
 use Rattle.std.proofs.lemmas.Bool.{cases_Bool, eq-eqb, eqb-true, or_left, or_right}
 use Rattle.nl_types.specs.declared.event.Mode.TheVariants.{Plain}
 use Rattle.nl_types.specs.declared.geometry.Geometry.{Geometry}
-use Rattle.nl_types.specs.NeedLaws.{AreGone}
-use Rattle.nl_types.specs.NumberLists.{is_one_of}
-use Rattle.nl_types.specs.Trees.{root_alone}
+use Rattle.nl_types.specs.Blocks.NeedLaws.{AreGone}
+use Rattle.nl_types.specs.Plain.NumberLists.{is_one_of}
+use Rattle.nl_types.specs.Plain.Trees.{root_alone}
 use Rattle.nl_device.specs.Failures.{Failures}
 use Rattle.nl_device.specs.Pages.{DevicePages}
 use Rattle.nl_vstore.specs.Batches.{Changes}

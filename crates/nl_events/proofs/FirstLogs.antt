@@ -5,8 +5,8 @@ use Rattle.nl_types.specs.declared.geometry.Geometry.{Geometry}
 use Rattle.nl_types.specs.declared.segment.Log.{Log}
 use Rattle.nl_types.specs.declared.segment.Position.{Position}
 use Rattle.nl_types.specs.declared.segment.SegmentInfo.{SegmentInfo}
-use Rattle.nl_types.specs.Placing.{GoOn, LogsFit}
-use Rattle.nl_types.specs.Segments.{active_from, clean_from, clean_info, free_segments}
+use Rattle.nl_types.specs.Blocks.Placing.{GoOn, LogsFit}
+use Rattle.nl_types.specs.Blocks.Segments.{active_from, clean_from, clean_info, free_segments}
 use Rattle.nl_sufile.specs.Table.{all_clean}
 
 -- what is known of so many segments that are clean

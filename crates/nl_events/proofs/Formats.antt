@@ -11,12 +11,12 @@ use Rattle.nl_types.specs.declared.error.VolError.TheVariants as error
 use Rattle.nl_types.specs.declared.event.Event.TheVariants.{Checkpoint}
 use Rattle.nl_types.specs.declared.event.Mode.TheVariants.{Plain}
 use Rattle.nl_types.specs.declared.geometry.Geometry.{Geometry}
-use Rattle.nl_types.specs.Entries.{Content}
-use Rattle.nl_types.specs.Lifetimes.{IsLedger, Ledger, Forgets, Makes, blank, ledger_after, ledger_after_all}
-use Rattle.nl_types.specs.Roots as roots
-use Rattle.nl_types.specs.Roots.{pages_of}
-use Rattle.nl_types.specs.Trees.{root_alone}
-use Rattle.nl_types.specs.Worlds.{formatted}
+use Rattle.nl_types.specs.Blocks.Entries.{Content}
+use Rattle.nl_types.specs.Blocks.Lifetimes.{IsLedger, Ledger, Forgets, Makes, blank, ledger_after, ledger_after_all}
+use Rattle.nl_types.specs.Blocks.Roots as roots
+use Rattle.nl_types.specs.Blocks.Roots.{pages_of}
+use Rattle.nl_types.specs.Plain.Trees.{root_alone}
+use Rattle.nl_types.specs.Plain.Worlds.{formatted}
 use Rattle.nl_types.specs.Facts.ExactLifetimes.{ledger_after-IsLedger}
 use Rattle.nl_types.specs.Facts.WorldLaws.{formatted_is_world}
 use Rattle.nl_device.specs.Failures.{Failures}

@@ -1,6 +1,6 @@
 -- A pen whose mounts are all given back.
 use Rattle.std.proofs.Common.{[], refl}
-use Rattle.nl_types.specs.Worlds.{World}
+use Rattle.nl_types.specs.Plain.Worlds.{World}
 use Rattle.nl_commit.specs.Layout.{IsPen, Layout, MeansWorld, layout_of}
 use Rattle.nl_commit.specs.Volume.{without_mounts}
 

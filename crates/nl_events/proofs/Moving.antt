@@ -11,10 +11,10 @@ use Rattle.nl_types.specs.declared.reply.Answer.{Answer}
 use Rattle.nl_types.specs.declared.reply.Answer.TheVariants as answer
 use Rattle.nl_types.specs.declared.row.ListOptions.{ListOptions}
 use Rattle.nl_types.specs.declared.event.Ask.{Ask}
-use Rattle.nl_types.specs.Calls.{is_dirtying}
-use Rattle.nl_types.specs.Roots.{Pages, pages_of}
-use Rattle.nl_types.specs.Worlds.{World, Reply}
-use Rattle.nl_types.specs.Runs.{Step, memory_alone}
+use Rattle.nl_types.specs.Plain.Calls.{is_dirtying}
+use Rattle.nl_types.specs.Blocks.Roots.{Pages, pages_of}
+use Rattle.nl_types.specs.Plain.Worlds.{World, Reply}
+use Rattle.nl_types.specs.Plain.Runs.{Step, memory_alone}
 use Rattle.nl_vstore.specs.Stores.{Store, content_in}
 use Rattle.nl_tree.specs.Became.{Current}
 use Rattle.nl_commit.specs.Changes.{HasChanged}

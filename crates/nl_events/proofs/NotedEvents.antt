@@ -9,8 +9,8 @@ use Rattle.nl_types.specs.declared.event.Event.TheVariants as event
 use Rattle.nl_types.specs.declared.event.Mode.{Mode}
 use Rattle.nl_types.specs.declared.reply.Answer.{Answer}
 use Rattle.nl_types.specs.declared.reply.Answer.TheVariants as answer
-use Rattle.nl_types.specs.Runs.{Step}
-use Rattle.nl_types.specs.Worlds.{Reply, World}
+use Rattle.nl_types.specs.Plain.Runs.{Step}
+use Rattle.nl_types.specs.Plain.Worlds.{Reply, World}
 use Rattle.nl_vstore.specs.Batches.{Changes}
 use Rattle.nl_vstore.specs.Located.{numbers_in}
 use Rattle.nl_vstore.specs.Stores.{IsStore}

@@ -4,7 +4,7 @@ use Rattle.std.proofs.Math.ListN.{get_or-map}
 use Rattle.std.proofs.lemmas.List.{length-map, map_push, take_more}
 use Rattle.std.specs.Option.{option_map}
 use Rattle.nl_types.specs.declared.period.Period.{Period}
-use Rattle.nl_types.specs.Entries.{Birth, Entry, period_of}
+use Rattle.nl_types.specs.Blocks.Entries.{Birth, Entry, period_of}
 use Rattle.nl_vstore.specs.Batches.{birth_of_item, births_of}
 use Rattle.nl_space.specs.Content.{Payload}
 use Rattle.nl_vstore.specs.Stores.{Numbered, Store, entry_now, numbered_in}

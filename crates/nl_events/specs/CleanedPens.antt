@@ -1,10 +1,10 @@
 -- What moves out of segments and retirements of segments leave of a pen.
 use Rattle.std.specs.Prelude.{◌≡◌, ℕ, List, [], Some, map, false}
 use Rattle.nl_types.specs.declared.error.VolError.{VolError}
-use Rattle.nl_types.specs.Entries.{Place}
-use Rattle.nl_types.specs.Lifetimes.{Allowed, Numbers, Frees, Makes, ledger_after}
-use Rattle.nl_types.specs.Worlds as worlds
-use Rattle.nl_types.specs.Worlds.{World}
+use Rattle.nl_types.specs.Blocks.Entries.{Place}
+use Rattle.nl_types.specs.Blocks.Lifetimes.{Allowed, Numbers, Frees, Makes, ledger_after}
+use Rattle.nl_types.specs.Plain.Worlds as worlds
+use Rattle.nl_types.specs.Plain.Worlds.{World}
 use Rattle.nl_cpfile.specs.declared.checkpoint.Checkpoint.{Checkpoint}
 use Rattle.nl_vstore.specs.Stores.{IsMoved, IsMoveRefused, IsReclaimed, IsStore, address_in, is_inside}
 use Rattle.nl_reclaim.specs.Moves.{KeptStore, needed_now}

@@ -1,7 +1,7 @@
 -- The counts of a pen's needed blocks, and what removals of checkpoints do to them.
 use Rattle.std.specs.Prelude.{◌≡◌, ◌⊎◌, ℕ, ◌-◌, ◌<◌, ◌≤◌, true, All, List, [], length, slice_index_or}
 use Rattle.std.specs.List.{AllPairs}
-use Rattle.nl_types.specs.NumberLists.{is_one_of}
+use Rattle.nl_types.specs.Plain.NumberLists.{is_one_of}
 use Rattle.nl_types.specs.declared.event.Mode.{Mode}
 use Rattle.nl_types.specs.declared.geometry.Geometry.{Geometry}
 use Rattle.nl_types.specs.declared.reply.Answer.{Answer}

@@ -1,6 +1,6 @@
 -- The lists of a volume that was just opened.
 use Rattle.std.specs.Prelude.{◌-◌, [], false}
-use Rattle.nl_types.specs.Limits.{first_inode}
+use Rattle.nl_types.specs.Plain.Limits.{first_inode}
 use Rattle.nl_cpfile.specs.Tables.{Table}
 use Rattle.nl_commit.specs.Volume.{Lists}
 

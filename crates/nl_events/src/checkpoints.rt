@@ -15,9 +15,7 @@ use crate::parts::Parts;
 use crate::tables::Tables;
 use nl_commit::{Commit, Draft, NewPage, Written};
 use nl_counts::NeededCounts;
-use nl_counts::laws::refusals_keep_counts;
 use nl_cpfile::Checkpoint as Kept;
-use nl_files::laws::settled_numbers_are_lowest;
 use nl_space::Payload;
 use nl_types::{Answer, Items, Mode, Reply, VolError};
 use nl_vstore::{Batch, Vstore};
@@ -98,7 +96,7 @@ pub fn write_checkpoint<V: Vstore, N: Notes>(
     ensures ends { IfOk result (λ draft. length draft.batch.ends ≤ needed.new.room) }
 {
     // Whatever is settled takes the lowest numbers that are free.
-    settled_numbers_are_lowest();
+    nl_files::laws::settled_numbers_are_lowest();
     let draft = draft_next(alloc, tables, store, needed, mode, moment)?;
     let commit = drafted_commit(alloc, &draft, notes)?;
     let _ = write_draft(alloc, tables, store, &draft)?;
@@ -114,7 +112,7 @@ impl<V: Vstore> Parts<V> {
         ensures { DoesTelling N.told self.old (Checkpoint mode moment) result self.new
             (N.commits notes.old) (N.commits notes.new) }
     {
-        refusals_keep_counts();
+        nl_counts::laws::refusals_keep_counts();
         let draft = write_checkpoint(
             self.alloc,
             &mut self.tables,

@@ -2,7 +2,7 @@
 ghost use Rattle.std.specs.Prelude.{◌≡◌, ◌≤◌, IfOk, IsOkUnless};
 ghost use Rattle.std.specs.List.{AllByRecursion};
 ghost use Rattle.std.proofs.Props.{props};
-ghost use Rattle.nl_types.specs.Protection.{staying_numbers};
+ghost use Rattle.nl_types.specs.Plain.Protection.{staying_numbers};
 ghost use Rattle.nl_vstore.specs.Located.{payload_count_in};
 ghost use Rattle.nl_cpfile.specs.Tables.{rows};
 ghost use Rattle.nl_commit.specs.CleanerViews.{counts_after, needed_after, needed_told};
@@ -27,13 +27,12 @@ struct Staying<'a> {
 }
 
 impl<'a> Keeping for Staying<'a> {
-    ghost use Rattle.nl_types.specs.Entries.{is_period_needed};
-    ghost use Rattle.nl_types.specs.Protection.{staying_numbers};
+    ghost use Rattle.nl_types.specs.Plain.Protection.{staying_numbers};
     ghost use Rattle.nl_cpfile.specs.Tables.{rows};
 
-    ghost test = { λ s. is_period_needed (staying_numbers s.below (rows s.kept.now.table)) };
+    ghost kept = { λ s. staying_numbers s.below (rows s.kept.now.table) };
 
-    fn needed(&self, period: Period) -> bool {
+    fn is_needed(&self, period: Period) -> bool {
         needed_from(self.kept, self.below, self.first, period)
     }
 }

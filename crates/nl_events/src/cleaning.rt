@@ -9,9 +9,7 @@ ghost use Rattle.nl_commit.specs.Notes.{DoesTelling, made, where_any, without_ch
 use crate::notes::Notes;
 use crate::parts::Parts;
 use nl_commit::{Commit, Written};
-use nl_counts::laws::{counts_stay, first_needed_stand_there, refusals_keep_counts};
 use nl_cpfile::Checkpoint;
-use nl_reclaim::laws::listed_moves_are_moves;
 use nl_reclaim::{list_needed, move_listed, retire};
 use nl_types::{Answer, Items, Reply, Segment, VirtualNumber};
 use nl_vstore::Vstore;
@@ -45,10 +43,10 @@ impl<V: Vstore> Parts<V> {
         ensures { DoesTelling N.told self.old (Move segment limit now) result self.new
             (N.commits notes.old) (N.commits notes.new) }
     {
-        listed_moves_are_moves();
-        first_needed_stand_there();
-        refusals_keep_counts();
-        counts_stay();
+        nl_reclaim::laws::listed_moves_are_moves();
+        nl_counts::laws::first_needed_stand_there();
+        nl_counts::laws::refusals_keep_counts();
+        nl_counts::laws::counts_stay();
         let listed = list_needed(self.alloc, &self.store, &self.tables, segment, limit)?;
         if listed.first.as_slice().is_empty() {
             return Ok(Answer::Moved { moved: 0, left: 0 });
@@ -160,7 +158,7 @@ impl<V: Vstore> Parts<V> {
     fn empty(&mut self, segment: Segment) -> Reply
         ensures { Does unshared self.old (Retire segment) result self.new }
     {
-        counts_stay();
+        nl_counts::laws::counts_stay();
         let count = self.needed.get(segment)?;
         let freed = retire(&mut self.store, count, segment)?;
         Ok(Answer::Freed(freed))

@@ -6,7 +6,7 @@ ghost use Rattle.nl_commit.specs.Volume.{gone_from, is_memory};
 
 use nl_cpfile::Checkpoints;
 use nl_protect::boundary;
-use nl_types::{CheckpointNumber, Items, VolError};
+use nl_types::{CheckpointNumber, Items, Moment, VolError};
 use std::alloc::Global;
 
 fn is_memory(refusal: VolError) -> bool
@@ -31,7 +31,7 @@ fn none_unless_memory(alloc: Global, refusal: VolError) -> Result<Items<Checkpoi
 pub fn expire(
     alloc: Global,
     kept: &mut Checkpoints,
-    now: u64,
+    now: Moment,
     period: u64,
 ) -> Result<Items<CheckpointNumber>, VolError>
     ensures gone { IfOk result (λ gone. gone ≡ gone_from kept.old.table now period) }

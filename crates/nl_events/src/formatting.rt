@@ -1,7 +1,7 @@
 //! The first checkpoint of a new volume, and its tables.
 ghost use Rattle.std.specs.Prelude.{◌≡◌, ◌⊎◌, [], length, replicate, IfErr, IfOk, OnOk};
 ghost use Rattle.nl_types.specs.declared.geometry.Geometry.{Geometry};
-ghost use Rattle.nl_types.specs.Worlds.{formatted};
+ghost use Rattle.nl_types.specs.Plain.Worlds.{formatted};
 ghost use Rattle.nl_device.specs.Failures.{Failures};
 ghost use Rattle.nl_device.specs.Pages.{DevicePages};
 ghost use Rattle.nl_commit.specs.Layout.{IsFormatted, IsPen, MeansWorld, blank_layout, layout_of};
@@ -12,8 +12,7 @@ use crate::checkpoints::write_checkpoint;
 use crate::notes::NoNotes;
 use crate::parts::Parts;
 use crate::tables::Tables;
-use nl_counts::NeededCounts;
-use nl_counts::laws::unused_stores_are_counted;
+use nl_counts::{NeededCounts, laws};
 use nl_types::{CheckpointNumber, Mode, VolError};
 use nl_vstore::Vstore;
 use std::alloc::Global;
@@ -39,7 +38,7 @@ fn first_checkpoint<V: Vstore>(
     ensures pen { OnOk result (IsCountedPen (layout_of tables.new.lists (V.store store.new)) needed.new) }
     ensures refused { IfErr result (λ e. (e ≡ VolError.Memory) ⊎ (e ≡ VolError.Fault)) }
 {
-    unused_stores_are_counted();
+    laws::unused_stores_are_counted();
     let draft = write_checkpoint(alloc, tables, store, needed, Mode::Plain, now, &mut NoNotes)?;
     needed.written(&*store, &draft.batch, draft.checkpoint.number);
     tables.forget_earlier();

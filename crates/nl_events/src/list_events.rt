@@ -9,13 +9,13 @@ use crate::parts::Parts;
 use crate::tables::Tables;
 use nl_commit::{Commit, Mounted};
 use nl_protect::boundary;
-use nl_types::{Answer, CheckpointNumber, Event, Mode, MountNumber, Reply};
+use nl_types::{Answer, CheckpointNumber, Event, Mode, Moment, MountNumber, Reply};
 use nl_vstore::Vstore;
 
 // ---- commits
 
 /// The number just below the boundary of protection.
-fn last_unprotected(tables: &Tables, now: u64, period: u64) -> CheckpointNumber
+fn last_unprotected(tables: &Tables, now: Moment, period: u64) -> CheckpointNumber
     ensures { result ≡ boundary_in tables.now.lists.table now period - 1 }
 {
     let first = boundary(tables.checkpoints(), now, period);
@@ -46,7 +46,7 @@ fn commit_before(tables: &Tables, event: &Event) -> Option<Commit>
         }),
         Event::Expire { now, period } => Some(Commit::RangeRemoved {
             first: CheckpointNumber::new(1),
-            last: last_unprotected(tables, *now, *period),
+            last: last_unprotected(tables, Moment::new(*now), *period),
         }),
         Event::Mount(checkpoint) => Some(Commit::Mounted(Mounted {
             number: MountNumber::new(0),
@@ -113,7 +113,7 @@ impl<V: Vstore> Parts<V> {
             Event::ChangeMode(number, mode) => self.tables.change_mode(*number, *mode),
             Event::Remove(number) => self.remove(*number),
             Event::RemoveRange { first, last } => self.remove_range(*first, *last),
-            Event::Expire { now, period } => self.expire(*now, *period),
+            Event::Expire { now, period } => self.expire(Moment::new(*now), *period),
             Event::Mount(number) => self.tables.mount(*number),
             Event::Unmount(mount) => self.tables.unmount(*mount),
             Event::MountRead(mount, ask) => {

@@ -8,7 +8,7 @@ ghost use Rattle.nl_commit.specs.Volume.{IsTakenOut, Lists};
 use crate::parts::Parts;
 use crate::tables::Tables;
 use nl_counts::NeededCounts;
-use nl_types::{Answer, CheckpointNumber, Reply};
+use nl_types::{Answer, CheckpointNumber, Moment, Reply};
 use nl_vstore::Vstore;
 
 /// The numbers that an answer tells to be gone.
@@ -96,7 +96,7 @@ impl<V: Vstore> Parts<V> {
     }
 
     /// Removes the plain checkpoints that a period no longer protects. Refused by `Memory` alone.
-    pub(crate) fn expire(&mut self, now: u64, period: u64) -> Reply
+    pub(crate) fn expire(&mut self, now: Moment, period: u64) -> Reply
         ensures { Does unshared self.old (Expire now period) result self.new }
     {
         let answer = self.tables.expire(self.alloc, now, period)?;

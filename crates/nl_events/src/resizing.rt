@@ -2,7 +2,7 @@
 ghost use Rattle.std.specs.Prelude.{◌≡◌, ◌≤◌, nat_lt, length, Ok, Err, IfOk, IfErr, OnOk, OnErr};
 ghost use Rattle.nl_types.specs.declared.event.Event.TheVariants.{Resize};
 ghost use Rattle.nl_types.specs.declared.reply.Answer.TheVariants.{Done};
-ghost use Rattle.nl_types.specs.Limits.{IsGeometry};
+ghost use Rattle.nl_types.specs.Plain.Limits.{IsGeometry};
 ghost use Rattle.nl_counts.specs.Counted.{with_segments};
 ghost use Rattle.nl_vstore.specs.Stores.{HasGrown, IsGrowthRefused};
 ghost use Rattle.nl_commit.specs.CleaningEvents.{resized_in};
@@ -11,8 +11,7 @@ ghost use Rattle.nl_commit.specs.Notes.{DoesTelling};
 use crate::notes::Notes;
 use crate::parts::Parts;
 use nl_commit::Commit;
-use nl_counts::NeededCounts;
-use nl_counts::laws::growth_keeps_counts;
+use nl_counts::{NeededCounts, laws};
 use nl_sufile::SegTable;
 use nl_types::{Answer, Geometry, Reply, VolError};
 use nl_vstore::Vstore;
@@ -50,7 +49,7 @@ fn add_segments<V: Vstore>(
     ensures same { OnErr result (needed.new ≡ needed.old) }
     ensures counted { (V.store store.old).failures ≤ (V.store store.new).failures }
 {
-    growth_keeps_counts();
+    laws::growth_keeps_counts();
     let present = store.table().sustat().segments as u32;
     needed.grow(alloc, segments)?;
     let grown = store.grow(alloc, segments);
@@ -68,7 +67,7 @@ impl<V: Vstore> Parts<V> {
         ensures { DoesTelling N.told self.old (Resize segments) result self.new
             (N.commits notes.old) (N.commits notes.new) }
     {
-        growth_keeps_counts();
+        laws::growth_keeps_counts();
         if !adds_segments(self.store.table(), segments)? {
             return Ok(Answer::Done);
         }

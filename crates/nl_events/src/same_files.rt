@@ -14,11 +14,9 @@ use nl_files::ReadTree;
 use nl_ifile::inode;
 use nl_layout::{Inode, Root};
 use nl_tree::{Link, TreeRead};
+use nl_types::limits::ROOT_INODE;
 use nl_types::{CheckpointNumber, InodeNumber, Items, Kind};
 use nl_vstore::VRead;
-
-/// The inode of the root directory.
-const ROOT_INODE: u64 = 2;
 
 /// One step of a walk, which goes on through a directory alone.
 fn step<T: TreeRead>(tree: &T, at: Link, name: &[u8]) -> Option<Link>
@@ -28,7 +26,7 @@ fn step<T: TreeRead>(tree: &T, at: Link, name: &[u8]) -> Option<Link>
     let (inode, kind) = at;
     match kind {
         Kind::File => None,
-        Kind::Directory => tree.find(inode.get(), name),
+        Kind::Directory => tree.find(inode, name),
     }
 }
 

@@ -1,12 +1,12 @@
 //! What the pen holds in memory: the current tree, kept checkpoints and mounts. Their blocks are in a store,
 //! under virtual block numbers.
 ghost use Rattle.std.specs.Prelude.{◌≡◌, ◌<◌, ◌≤◌, [], ◌∷◌, IfErr, IfOk, OnErr, OnOk, IsOkUnless, length};
-ghost use Rattle.nl_types.specs.Calls as calls;
-ghost use Rattle.nl_types.specs.Roots.{Pages};
-ghost use Rattle.nl_types.specs.Rows.{kept_row};
-ghost use Rattle.nl_types.specs.Worlds as worlds;
+ghost use Rattle.nl_types.specs.Plain.Calls as calls;
+ghost use Rattle.nl_types.specs.Blocks.Roots.{Pages};
+ghost use Rattle.nl_types.specs.Plain.Rows.{kept_row};
+ghost use Rattle.nl_types.specs.Plain.Worlds as worlds;
 ghost use Rattle.nl_cpfile.specs.Tables as cpfile;
-ghost use Rattle.nl_types.specs.Worlds.{World};
+ghost use Rattle.nl_types.specs.Plain.Worlds.{World};
 ghost use Rattle.nl_vstore.specs.Stores.{content_in};
 ghost use Rattle.nl_commit.specs.Notes as notes;
 
@@ -19,8 +19,8 @@ use nl_protect::needed;
 use nl_reclaim::Keeping;
 use nl_tree::{CurrentTree, answer};
 use nl_types::{
-    Answer, Ask, Change, CheckpointNumber, Items, ListOptions, Mode, MountNumber, Period, Reply,
-    Row, VolError,
+    Answer, Ask, Change, CheckpointNumber, Items, ListOptions, Mode, Moment, MountNumber, Period,
+    Reply, Row, VolError,
 };
 use nl_vstore::{Batch, VRead, Vstore};
 use std::alloc::{AllocError, Global};
@@ -350,7 +350,7 @@ impl Tables {
 
     /// Removes the plain checkpoints below the boundary of protection but for the latest one, and answers
     /// their numbers. Refused by `Memory` alone.
-    pub fn expire(&mut self, alloc: Global, now: u64, period: u64) -> Reply
+    pub fn expire(&mut self, alloc: Global, now: Moment, period: u64) -> Reply
         ensures follows { (pages : Pages)
             → StepsWorldsOver pages self.old.lists (Expire now period) result self.new.lists }
         ensures expired { IfOk result (λ answer. IsExpired now period answer self.old.lists self.new.lists) }
@@ -483,14 +483,13 @@ impl Tables {
     }
 }
 
+/// What all checkpoints need that a volume keeps.
 impl Keeping for Tables {
-    ghost use Rattle.nl_types.specs.Entries.{is_period_needed};
-    ghost use Rattle.nl_types.specs.Protection.{staying_numbers};
-    ghost use Rattle.nl_cpfile.specs.Tables.{rows};
+    ghost use Rattle.nl_commit.specs.CleaningEvents.{kept_numbers};
 
-    ghost test = { λ t. is_period_needed (staying_numbers 0 (rows t.lists.table)) };
+    ghost kept = { λ t. kept_numbers t.lists };
 
-    fn needed(&self, period: Period) -> bool {
+    fn is_needed(&self, period: Period) -> bool {
         needed(&self.checkpoints, CheckpointNumber::new(0), period)
     }
 }

@@ -1,9 +1,9 @@
 -- What a checkpoint's root stands for, and the roots of its files.
 use Rattle.std.specs.Prelude.{◌≡◌, ℕ, ◌==◌, if◌then◌else◌, List, Option, None, Some}
-use Rattle.nl_types.specs.Limits.{inode_file_number}
-use Rattle.nl_types.specs.Entries.{Content}
-use Rattle.nl_types.specs.Roots.{Blocks, Pages, Root, Empty, page_at, pages_of}
-use Rattle.nl_types.specs.RootChanges.{IsSound}
+use Rattle.nl_types.specs.Plain.Limits.{inode_file_number}
+use Rattle.nl_types.specs.Blocks.Entries.{Content}
+use Rattle.nl_types.specs.Blocks.Roots.{Blocks, Pages, Root, Empty, page_at, pages_of}
+use Rattle.nl_types.specs.Blocks.RootChanges.{IsSound}
 use Rattle.nl_layout.specs.Root.{root_of}
 use Rattle.nl_layout.specs.declared.inode.Inode.{Inode}
 use Rattle.nl_layout.specs.declared.inode.InodeKind.{InodeKind}

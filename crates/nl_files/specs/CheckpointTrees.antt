@@ -1,6 +1,6 @@
 -- The tree of a checkpoint, as the reading of its inodes finds it.
 use Rattle.std.specs.Prelude.{Option, None, Some}
-use Rattle.nl_types.specs.Roots.{Pages, Root}
+use Rattle.nl_types.specs.Blocks.Roots.{Pages, Root}
 use Rattle.nl_tree.specs.Held.{Held, Holding, IsHolding, Listed, Stored}
 use Rattle.nl_files.specs.CheckpointRoots.{Stores}
 

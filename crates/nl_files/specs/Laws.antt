@@ -1,9 +1,9 @@
 -- From one checkpoint to the next.
 use Rattle.std.specs.Prelude.{◌≡◌, ◌≤◌, ℕ, List, [], length}
-use Rattle.nl_types.specs.Limits.{inode_file_number}
-use Rattle.nl_types.specs.Entries.{Content}
-use Rattle.nl_types.specs.Roots.{Pages, Root, Empty}
-use Rattle.nl_types.specs.Lifetimes.{Allowed, IsLedger, Ledger, Makes, blank, ledger_after, numbers_at}
+use Rattle.nl_types.specs.Plain.Limits.{inode_file_number}
+use Rattle.nl_types.specs.Blocks.Entries.{Content}
+use Rattle.nl_types.specs.Blocks.Roots.{Pages, Root, Empty}
+use Rattle.nl_types.specs.Blocks.Lifetimes.{Allowed, IsLedger, Ledger, Makes, blank, ledger_after, numbers_at}
 use Rattle.nl_layout.specs.Root.{root_of}
 use Rattle.nl_layout.specs.declared.root.Root.{Root as CodeRoot}
 use Rattle.nl_vstore.specs.Batches.{Changes, CanBeTaken, TakeLowestFree}

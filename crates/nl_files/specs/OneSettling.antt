@@ -1,7 +1,7 @@
 -- What is settled of one tree over one checkpoint.
 use Rattle.std.specs.Prelude.{◌≡◌, ℕ, List, [], length}
-use Rattle.nl_types.specs.Entries.{Content}
-use Rattle.nl_types.specs.Roots.{Root, pages_of}
+use Rattle.nl_types.specs.Blocks.Entries.{Content}
+use Rattle.nl_types.specs.Blocks.Roots.{Root, pages_of}
 use Rattle.nl_vstore.specs.Batches.{Changes}
 use Rattle.nl_tree.specs.Became.{Became}
 use Rattle.nl_tree.specs.Held.{Holding, IsHolding}

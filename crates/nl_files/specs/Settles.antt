@@ -1,11 +1,11 @@
 -- What a checkpoint makes of the current tree.
 use Rattle.std.specs.Prelude.{◌≡◌, ℕ, List, [], ◌∷◌, ◌++◌, map, Option}
 use Rattle.std.specs.List.{AllPairs}
-use Rattle.nl_types.specs.Limits.{inode_file_number}
-use Rattle.nl_types.specs.Entries.{Content}
-use Rattle.nl_types.specs.NumberLists.{NoneTwice}
-use Rattle.nl_types.specs.Roots.{Root, pages_of}
-use Rattle.nl_types.specs.RootChanges.{IsSound}
+use Rattle.nl_types.specs.Plain.Limits.{inode_file_number}
+use Rattle.nl_types.specs.Blocks.Entries.{Content}
+use Rattle.nl_types.specs.Plain.NumberLists.{NoneTwice}
+use Rattle.nl_types.specs.Blocks.Roots.{Root, pages_of}
+use Rattle.nl_types.specs.Blocks.RootChanges.{IsSound}
 use Rattle.nl_vstore.specs.Batches.{Changes}
 use Rattle.nl_layout.specs.declared.inode.Inode.{Inode}
 use Rattle.nl_blocktree.specs.declared.change.BlockChange.{BlockChange}

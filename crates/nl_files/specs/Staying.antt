@@ -1,7 +1,7 @@
 -- Checkpoints over pages that agree with their own where they reach.
 use Rattle.std.specs.Prelude.{◌≡◌, ℕ}
-use Rattle.nl_types.specs.PartialMaps.{Keeps}
-use Rattle.nl_types.specs.Roots.{Pages, Root}
+use Rattle.nl_types.specs.Blocks.PartialMaps.{Keeps}
+use Rattle.nl_types.specs.Blocks.Roots.{Pages, Root}
 use Rattle.nl_blocktree.specs.Checkpoints.{AgreeWhere, numbers_of}
 use Rattle.nl_tree.specs.Held.{Holding}
 use Rattle.nl_files.specs.CheckpointTrees.{HoldsTree}

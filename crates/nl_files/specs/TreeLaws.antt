@@ -1,8 +1,8 @@
 -- The current tree from one checkpoint to the next, and the first one.
 use Rattle.std.specs.Prelude.{ℕ, []}
-use Rattle.nl_types.specs.Lifetimes.{IsLedger, Ledger, blank}
-use Rattle.nl_types.specs.Trees.{Tree, root_alone}
-use Rattle.nl_types.specs.Roots.{Pages, Root, Empty}
+use Rattle.nl_types.specs.Blocks.Lifetimes.{IsLedger, Ledger, blank}
+use Rattle.nl_types.specs.Plain.Trees.{Tree, root_alone}
+use Rattle.nl_types.specs.Blocks.Roots.{Pages, Root, Empty}
 use Rattle.nl_vstore.specs.Batches.{Changes, CanBeTaken}
 use Rattle.nl_blocktree.specs.Checkpoints.{ledger_pages}
 use Rattle.nl_tree.specs.Held.{Holding, IsHolding}

@@ -1,6 +1,6 @@
 //! Copying the bytes of a file's blocks.
 ghost use Rattle.std.specs.Prelude.{◌≡◌, ◌+◌, ◌≤◌, ◌<◌, ◌^◌, ℕ, length, option_copied, slice_index};
-ghost use Rattle.nl_types.specs.Roots.{page_at};
+ghost use Rattle.nl_types.specs.Blocks.Roots.{page_at};
 ghost use Rattle.nl_layout.specs.Root.{root_of};
 ghost use Rattle.nl_tree.specs.Contents.{byte_in};
 ghost use Rattle.nl_tree.specs.Reading.{AreBytesFrom};

@@ -1,7 +1,7 @@
 //! Reading the blocks of a directory.
 ghost use Rattle.std.specs.Prelude.{◌≡◌, ◌<◌, ◌/◌, ◌^◌, ◌++◌, List, IfOk, IfErr, OnOk, length, option_copied};
 ghost use Rattle.nl_types.specs.declared.error.VolError;
-ghost use Rattle.nl_types.specs.Roots.{page_at};
+ghost use Rattle.nl_types.specs.Blocks.Roots.{page_at};
 ghost use Rattle.nl_layout.specs.Root.{root_of};
 ghost use Rattle.nl_dirs.specs.declared.record.Record.{Record};
 ghost use Rattle.nl_dirs.specs.Records.{IsPageOf, entry_of};

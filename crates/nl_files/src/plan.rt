@@ -1,6 +1,6 @@
 //! The changes of blocks that make what an inode became of the checkpoint's one.
 ghost use Rattle.std.specs.Prelude.{◌≡◌, ℕ, Some, None, ◌≤◌, ◌-◌, ◌*◌, ◌++◌, ◌∷◌, [], List, length, IfOk, IfErr};
-ghost use Rattle.nl_types.specs.Limits as limits;
+ghost use Rattle.nl_types.specs.Plain.Limits as limits;
 ghost use Rattle.nl_dirs.specs.Packing.{Packs};
 ghost use Rattle.nl_tree.specs.Became.{MayBecome, Rises};
 ghost use Rattle.nl_tree.specs.Overlays.{became_of, new_pages};

@@ -1,6 +1,6 @@
 //! The tree of a checkpoint, read from its blocks.
 ghost use Rattle.std.specs.Prelude.{◌≡◌, IfSome, MatchOption, Option};
-ghost use Rattle.nl_types.specs.Roots.{page_at};
+ghost use Rattle.nl_types.specs.Blocks.Roots.{page_at};
 ghost use Rattle.nl_layout.specs.Root.{root_of};
 ghost use Rattle.nl_layout.specs.declared.inode.InodeKind.TheVariants as inode_kind;
 ghost use Rattle.nl_ifile.specs.Inodes.{inode_at};
@@ -37,7 +37,7 @@ impl<'a, V: VRead> ReadTree<'a, V> {
     }
 
     /// The blocks of a directory, if the number has one.
-    fn directory(&self, number: u64) -> Option<Directory<'a, V>>
+    fn directory(&self, number: InodeNumber) -> Option<Directory<'a, V>>
         ensures store { IfSome result (λ directory. directory.store.now ≡ self.now.store.now) }
         ensures stands { (held : Option Held)
             → StandsFor (V.pages self.now.store.now)
@@ -46,7 +46,7 @@ impl<'a, V: VRead> ReadTree<'a, V> {
             StandsAs (page_at (V.pages self.now.store.now) (root_of directory.root))
             inode_kind.Directory directory.size held) }
     {
-        let inode = inode(self.store, self.root, InodeNumber::new(number))?;
+        let inode = inode(self.store, self.root, number)?;
         match inode.kind {
             InodeKind::Directory => Some(Directory {
                 store: self.store,
@@ -58,7 +58,7 @@ impl<'a, V: VRead> ReadTree<'a, V> {
     }
 
     /// The inode of a file, if the number has one.
-    fn file(&self, number: u64) -> Option<Inode>
+    fn file(&self, number: InodeNumber) -> Option<Inode>
         ensures { (held : Option Held)
             → StandsFor (V.pages self.now.store.now)
             (inode_at (V.pages self.now.store.now) (root_of self.now.root) number) held
@@ -66,7 +66,7 @@ impl<'a, V: VRead> ReadTree<'a, V> {
             StandsAs (page_at (V.pages self.now.store.now) (root_of file.root))
             inode_kind.File file.size held) }
     {
-        let inode = inode(self.store, self.root, InodeNumber::new(number))?;
+        let inode = inode(self.store, self.root, number)?;
         match inode.kind {
             InodeKind::File => Some(inode),
             InodeKind::Directory | InodeKind::InodeFile => None,
@@ -80,39 +80,39 @@ impl<V: VRead> TreeRead for ReadTree<'_, V> {
 
     ghost holds = { λ tree held. HoldsTree (V.pages tree.store.now) (root_of tree.root) held };
 
-    fn find(&self, dir: u64, name: &[u8]) -> Option<Link> {
+    fn find(&self, dir: InodeNumber, name: &[u8]) -> Option<Link> {
         match self.directory(dir) {
             Some(directory) => directory.find(name),
             None => None,
         }
     }
 
-    fn size(&self, file: u64) -> u64 {
+    fn size(&self, file: InodeNumber) -> u64 {
         match self.file(file) {
             Some(inode) => inode.size,
             None => 0,
         }
     }
 
-    fn block(&self, file: u64, index: u64) -> Option<&Page> {
+    fn block(&self, file: InodeNumber, index: u64) -> Option<&Page> {
         get(self.store, self.file(file)?.root, index)
     }
 
-    fn read_bytes(&self, file: u64, offset: u64, into: &mut [u8]) {
+    fn read_bytes(&self, file: InodeNumber, offset: u64, into: &mut [u8]) {
         match self.file(file) {
             Some(inode) => copy_bytes(self.store, inode.root, offset, into),
             None => into.fill(0),
         }
     }
 
-    fn name_count(&self, dir: u64) -> u64 {
+    fn name_count(&self, dir: InodeNumber) -> u64 {
         match self.directory(dir) {
             Some(directory) => directory.count(),
             None => 0,
         }
     }
 
-    fn records(&self, alloc: Global, dir: u64) -> Result<Vec<Record>, VolError> {
+    fn records(&self, alloc: Global, dir: InodeNumber) -> Result<Vec<Record>, VolError> {
         match self.directory(dir) {
             Some(directory) => directory.records(alloc),
             None => Ok(Vec::new(alloc)),
@@ -121,8 +121,7 @@ impl<V: VRead> TreeRead for ReadTree<'_, V> {
 }
 
 impl<V: VRead> Base for ReadTree<'_, V> {
-    fn free_from(&self, from: u64) -> Option<u64> {
-        let number = next_ino(self.store, self.root, &[], InodeNumber::new(from))?;
-        Some(number.get())
+    fn free_from(&self, from: InodeNumber) -> Option<InodeNumber> {
+        next_ino(self.store, self.root, &[], from)
     }
 }

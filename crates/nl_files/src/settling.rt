@@ -1,7 +1,7 @@
 //! What a checkpoint takes of the current tree.
 ghost use Rattle.std.specs.Prelude.{◌≡◌, ℕ, ◌≤◌, List, [], ◌∷◌, ◌++◌, Option, IfOk, IfErr, OnErr};
-ghost use Rattle.nl_types.specs.Limits as limits;
-ghost use Rattle.nl_types.specs.Roots.{page_at, pages_of};
+ghost use Rattle.nl_types.specs.Plain.Limits as limits;
+ghost use Rattle.nl_types.specs.Blocks.Roots.{page_at, pages_of};
 ghost use Rattle.nl_layout.specs.Root.{root_of};
 ghost use Rattle.nl_vstore.specs.Batches.{Changes};
 ghost use Rattle.nl_vstore.specs.Stores.{content_in};
@@ -89,7 +89,7 @@ fn settle_slot<V: Vstore>(
     store: &V,
     batch: &mut Batch,
     root: &Root,
-    number: u64,
+    number: InodeNumber,
     slot: &Slot,
     inodes: &mut Vec<InodeChange>,
 ) -> Result<(), VolError>
@@ -105,7 +105,6 @@ fn settle_slot<V: Vstore>(
     if !slot.live {
         return Ok(());
     }
-    let number = InodeNumber::new(number);
     let old = inode(store, *root, number);
     let new = settle_one(alloc, store, batch, number, &old, &slot.what)?;
     push_inode(inodes, number, new)

@@ -2,12 +2,12 @@
 use Rattle.std.proofs.Common.{◌≡◌, ◌⊎◌, ℕ, zero, suc, ◌+◌, ◌<◌, ◌≤◌, Bool, false, ◌||◌, List, [], ◌∷◌, ◌++◌, length, replicate, get_or, refl, sym, ap, ◌∙◌, arith, inl, inr}
 use Rattle.std.proofs.lemmas.Bool.{cases_lt, cases_order}
 use Rattle.std.proofs.lemmas.List.{get_or-replicate, get_or_past, length-replicate}
-use Rattle.nl_types.specs.Paths.{Path, same_path, is_within}
-use Rattle.nl_types.specs.Trees.{Tree}
+use Rattle.nl_types.specs.Plain.Paths.{Path, same_path, is_within}
+use Rattle.nl_types.specs.Plain.Trees.{Tree}
 use Rattle.nl_types.specs.Facts.Lookups.{same_path-itself}
 use Rattle.nl_folders.proofs.EntryParts.{places_apart}
 use Rattle.nl_folders.proofs.StepsDone.{has_come-push, has_gone-push, made_done, or_false, or_true, relocated_done}
-use Rattle.nl_folders.specs.declared.sides.Move.{Move}
+use Rattle.nl_folders.specs.declared.sides.Relocation.{Relocation}
 use Rattle.nl_folders.specs.declared.sides.Step.{Step}
 use Rattle.nl_folders.specs.declared.sides.Step.TheVariants.{Make, Relocate}
 use Rattle.nl_folders.specs.Private.Sides.{AreMatched, ArePlaced, AreSteps, IsPart, IsPlaced, IsStep, MayMake, MayMove, SetsFlags, TwoSides, has_come, has_gone, path_at}
@@ -131,7 +131,7 @@ part_flags entries old new start end has part sets told k within = elim (cases_l
   ]
 ]
 
-pub relocate_chosen : (s : TwoSides) (part : Move) (gone come : List Bool) → AreMatched s
+pub relocate_chosen : (s : TwoSides) (part : Relocation) (gone come : List Bool) → AreMatched s
     → part.from + part.count ≤ length s.present → part.to + part.count ≤ length s.wanted → 0 < part.count
     → (IsNameable s.present → IsNameable s.wanted → MayMove s part)
     → SetsFlags s.gone gone part.from (part.from + part.count)

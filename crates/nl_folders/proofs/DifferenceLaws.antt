@@ -7,8 +7,8 @@ use Rattle.std.specs.FinMap.Entries.{below_all, by_order}
 use Rattle.std.proofs.lemmas.Bool.{and_parts}
 use Rattle.nl_types.specs.declared.reply.Node.{Node}
 use Rattle.nl_types.specs.declared.reply.Node.TheVariants.{Dir, File}
-use Rattle.nl_types.specs.Paths.{Path, path_cmp, same_path}
-use Rattle.nl_types.specs.Trees.{Tree, lookup}
+use Rattle.nl_types.specs.Plain.Paths.{Path, path_cmp, same_path}
+use Rattle.nl_types.specs.Plain.Trees.{Tree, lookup}
 use Rattle.nl_types.specs.Facts.TreeLaws.{path_total, paths_equal, same_path-equal}
 use Rattle.nl_folders.proofs.SortedTrees.{absent, below_first}
 use Rattle.nl_folders.specs.declared.differences.Difference.{Difference}

@@ -13,10 +13,10 @@ use Rattle.nl_types.specs.declared.reply.Answer.{Answer}
 use Rattle.nl_types.specs.declared.reply.Answer.TheVariants as answer
 use Rattle.nl_types.specs.declared.reply.Node.{Node}
 use Rattle.nl_types.specs.declared.reply.Node.TheVariants.{Dir, File}
-use Rattle.nl_types.specs.Limits.{file_limit, path_limit}
-use Rattle.nl_types.specs.Paths.{Name, Path, name_cmp, path_cmp, path_of, same_path}
-use Rattle.nl_types.specs.Trees.{Tree, IsTree, lookup, insert, remove, children, node_kind}
-use Rattle.nl_types.specs.Calls.{Changed, and_then, list, named, refuse_if, ok_unless, stops_walk, stop_from, walk, node_at, file_at, file_in, dir_at, dir_in, is_root, has_names, change, create, write, overwritten, truncate, resized, unlink, rmdir}
+use Rattle.nl_types.specs.Plain.Limits.{file_limit, path_limit}
+use Rattle.nl_types.specs.Plain.Paths.{Name, Path, name_cmp, path_cmp, path_of, same_path}
+use Rattle.nl_types.specs.Plain.Trees.{Tree, IsTree, lookup, insert, remove, children, node_kind}
+use Rattle.nl_types.specs.Plain.Calls.{Changed, and_then, list, named, refuse_if, ok_unless, stops_walk, stop_from, walk, node_at, file_at, file_in, dir_at, dir_in, is_root, has_names, change, create, write, overwritten, truncate, resized, unlink, rmdir}
 use Rattle.nl_types.specs.Facts.Booleans.{holds}
 use Rattle.nl_types.specs.Facts.CallLookups.{creates_add_one, writes_change_one, truncates_change_one, unlinks_remove_one, rmdirs_remove_one}
 use Rattle.nl_types.specs.Facts.ChangeLaws.{change_then_tree}

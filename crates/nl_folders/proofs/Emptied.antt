@@ -13,10 +13,10 @@ use Rattle.nl_types.specs.declared.kind.Kind.{Kind}
 use Rattle.nl_types.specs.declared.reply.Named.{Named}
 use Rattle.nl_types.specs.declared.reply.Node.{Node}
 use Rattle.nl_types.specs.declared.reply.Node.TheVariants.{Dir, File}
-use Rattle.nl_types.specs.Limits.{file_limit}
-use Rattle.nl_types.specs.Paths.{Name, Path, path_cmp, same_path}
-use Rattle.nl_types.specs.Trees.{Tree, IsTree, lookup, children, name_below, node_kind}
-use Rattle.nl_types.specs.Calls.{and_then, file_at, list, named}
+use Rattle.nl_types.specs.Plain.Limits.{file_limit}
+use Rattle.nl_types.specs.Plain.Paths.{Name, Path, path_cmp, same_path}
+use Rattle.nl_types.specs.Plain.Trees.{Tree, IsTree, lookup, children, name_below, node_kind}
+use Rattle.nl_types.specs.Plain.Calls.{and_then, file_at, list, named}
 use Rattle.nl_types.specs.Facts.Lookups.{same_path-itself}
 use Rattle.nl_types.specs.Facts.TreeLaws.{paths_equal, same_path-equal}
 use Rattle.nl_folders.proofs.DoneCalls.{dir_there, file_there, list_there}

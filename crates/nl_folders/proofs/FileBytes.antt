@@ -9,9 +9,9 @@ use Rattle.std.proofs.lemmas.List.{length-replicate, get_or-replicate, get_or_ap
 use Rattle.std.proofs.lemmas.Slice.Eq.{bytes_eq-Decides}
 use Rattle.nl_types.specs.declared.event.Change.{Change}
 use Rattle.nl_types.specs.declared.event.Change.TheVariants.{Truncate}
-use Rattle.nl_types.specs.Calls.{overwritten, resized}
+use Rattle.nl_types.specs.Plain.Calls.{overwritten, resized}
 use Rattle.nl_types.specs.Facts.FileSizes.{written_sizes, truncated_sizes}
-use Rattle.nl_types.specs.Paths.{Path}
+use Rattle.nl_types.specs.Plain.Paths.{Path}
 use Rattle.nl_folders.specs.declared.rewriting.Run.{Run}
 use Rattle.nl_folders.specs.Blocks.{IsOfOtherBlocks, block_of, block_stands, blocks_in}
 use Rattle.nl_folders.specs.Private.Rewriting.{AreOfOtherBlocks, AreRewrites, BlocksStand, IsNextRun, IsRewrite, IsRewrittenTo, RewritesFile, SameBytes, content_after, content_with, place_of, write_of}

@@ -4,8 +4,8 @@ use Rattle.nl_types.specs.declared.event.Change.{Change}
 use Rattle.nl_types.specs.declared.event.Change.TheVariants.{Create, Mkdir, Write, Truncate, Unlink, Rmdir, Rename}
 use Rattle.nl_types.specs.declared.reply.Node.{Node}
 use Rattle.nl_types.specs.declared.reply.Node.TheVariants.{Dir, File}
-use Rattle.nl_types.specs.Paths.{Path, is_within}
-use Rattle.nl_types.specs.Trees.{Tree, IsTree, lookup}
+use Rattle.nl_types.specs.Plain.Paths.{Path, is_within}
+use Rattle.nl_types.specs.Plain.Trees.{Tree, IsTree, lookup}
 use Rattle.nl_types.specs.Facts.Booleans.{not_true}
 use Rattle.nl_types.specs.Facts.Lookups.{within_is}
 use Rattle.nl_folders.proofs.PlanLaws.{same_everywhere}

@@ -4,10 +4,10 @@ use Rattle.nl_types.specs.declared.event.Change.{Change}
 use Rattle.nl_types.specs.declared.event.Change.TheVariants.{Create, Mkdir, Write, Truncate, Unlink, Rmdir, Rename}
 use Rattle.nl_types.specs.declared.reply.Node.{Node}
 use Rattle.nl_types.specs.declared.reply.Node.TheVariants.{Dir, File}
-use Rattle.nl_types.specs.Limits.{file_limit, path_limit}
-use Rattle.nl_types.specs.Paths.{Path, path_of, same_path}
-use Rattle.nl_types.specs.Trees.{Tree, IsTree, lookup}
-use Rattle.nl_types.specs.Calls.{Changed, and_then, walk}
+use Rattle.nl_types.specs.Plain.Limits.{file_limit, path_limit}
+use Rattle.nl_types.specs.Plain.Paths.{Path, path_of, same_path}
+use Rattle.nl_types.specs.Plain.Trees.{Tree, IsTree, lookup}
+use Rattle.nl_types.specs.Plain.Calls.{Changed, and_then, walk}
 use Rattle.nl_types.specs.Facts.Lookups.{same_path-itself}
 use Rattle.nl_types.specs.Facts.TreeLaws.{same_path-equal}
 use Rattle.nl_folders.proofs.DoneCalls.{IsDoneAt, create_done, mkdir_done, truncate_done, write_done}

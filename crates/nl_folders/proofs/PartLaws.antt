@@ -2,8 +2,8 @@
 use Rattle.std.proofs.Common.{◌≡◌, true, false, cond, List, [], ◌∷◌, ◌++◌, map, filter, length, drop, Some, refl, sym, ap, ◌∙◌}
 use Rattle.std.specs.Ordering.{is_eq}
 use Rattle.std.specs.FinMap.{find}
-use Rattle.nl_types.specs.Paths.{Path, path_cmp, same_path, is_within}
-use Rattle.nl_types.specs.Trees.{Tree, lookup}
+use Rattle.nl_types.specs.Plain.Paths.{Path, path_cmp, same_path, is_within}
+use Rattle.nl_types.specs.Plain.Trees.{Tree, lookup}
 use Rattle.nl_types.specs.Facts.Lookups.{apart_by, is_within-append, path_cmp-append, within_is}
 use Rattle.nl_folders.specs.Parts.{PartsAreExact, part_below}
 

@@ -3,7 +3,7 @@ use Rattle.std.proofs.Common.{◌≡◌, false, [], ◌∷◌, Option, Some, Non
 use Rattle.std.proofs.lemmas.Slice.Eq.{bytes_eq-Decides}
 use Rattle.nl_types.specs.declared.reply.Node.{Node}
 use Rattle.nl_types.specs.declared.reply.Node.TheVariants.{Dir, File}
-use Rattle.nl_types.specs.Trees.{lookup}
+use Rattle.nl_types.specs.Plain.Trees.{lookup}
 use Rattle.nl_folders.specs.declared.differences.Difference.{Difference}
 use Rattle.nl_folders.specs.declared.differences.Difference.TheVariants.{Rewritten}
 use Rattle.nl_folders.specs.Differences.{difference_of}

@@ -9,10 +9,10 @@ use Rattle.std.proofs.lemmas.Slice.Eq.{bytes_eq-Decides}
 use Rattle.nl_types.specs.declared.event.Change.{Change}
 use Rattle.nl_types.specs.declared.reply.Node.{Node}
 use Rattle.nl_types.specs.declared.reply.Node.TheVariants.{Dir, File}
-use Rattle.nl_types.specs.Limits.{path_limit}
-use Rattle.nl_types.specs.Paths.{Name, Path, path_cmp, path_of, same_path}
-use Rattle.nl_types.specs.Trees.{Tree, IsTree, lookup, insert}
-use Rattle.nl_types.specs.Calls.{is_root, walk}
+use Rattle.nl_types.specs.Plain.Limits.{path_limit}
+use Rattle.nl_types.specs.Plain.Paths.{Name, Path, path_cmp, path_of, same_path}
+use Rattle.nl_types.specs.Plain.Trees.{Tree, IsTree, lookup, insert}
+use Rattle.nl_types.specs.Plain.Calls.{is_root, walk}
 use Rattle.nl_types.specs.Facts.Booleans.{holds, is_true}
 use Rattle.nl_types.specs.Facts.CallLookups.{same_lookups_are_one_tree}
 use Rattle.nl_types.specs.Facts.TreeLaws.{path_total, same_path-equal, lookup-insert}

@@ -2,8 +2,8 @@
 use Rattle.std.proofs.Common.{◌≡◌, ℕ, Bool, false, not, ◌&&◌, List, get_or, slice_index_or, Option, Some, None, refl, sym, ap, ◌∙◌, subst, is_some, IsTrue}
 use Rattle.std.specs.FinMap.{is_sorted}
 use Rattle.nl_types.specs.declared.reply.Node.{Node}
-use Rattle.nl_types.specs.Paths.{Path, path_cmp}
-use Rattle.nl_types.specs.Trees.{Tree, lookup}
+use Rattle.nl_types.specs.Plain.Paths.{Path, path_cmp}
+use Rattle.nl_types.specs.Plain.Trees.{Tree, lookup}
 use Rattle.nl_folders.specs.Differences.{difference_of}
 use Rattle.nl_folders.specs.Plans.{left_of}
 

@@ -7,9 +7,9 @@ use Rattle.nl_types.specs.declared.reply.Answer.{Answer}
 use Rattle.nl_types.specs.declared.reply.Answer.TheVariants as answer
 use Rattle.nl_types.specs.declared.reply.Node.{Node}
 use Rattle.nl_types.specs.declared.reply.Node.TheVariants.{Dir}
-use Rattle.nl_types.specs.Paths.{Path, path_of, same_path, is_within}
-use Rattle.nl_types.specs.Trees.{Tree, IsTree, lookup, move_subtree}
-use Rattle.nl_types.specs.Calls.{Changed, and_then, refuse_if, walk, node_at, is_above, is_dir, is_root, change, may_replace, rename}
+use Rattle.nl_types.specs.Plain.Paths.{Path, path_of, same_path, is_within}
+use Rattle.nl_types.specs.Plain.Trees.{Tree, IsTree, lookup, move_subtree}
+use Rattle.nl_types.specs.Plain.Calls.{Changed, and_then, refuse_if, walk, node_at, is_above, is_dir, is_root, change, may_replace, rename}
 use Rattle.nl_types.specs.Facts.CallLookups.{renames_move_subtree}
 use Rattle.nl_types.specs.Facts.ChangeLaws.{change_then_tree}
 use Rattle.nl_types.specs.Facts.Subtrees.{length-move_subtree}

@@ -9,8 +9,8 @@ use Rattle.std.proofs.lemmas.Bool.{and_parts, and_from}
 use Rattle.std.proofs.lemmas.List.{drop_more, get_or_default, take_more, take_rest}
 use Rattle.nl_types.specs.declared.reply.Node.{Node}
 use Rattle.nl_types.specs.declared.reply.Node.TheVariants.{Dir}
-use Rattle.nl_types.specs.Paths.{Path, path_cmp, same_path}
-use Rattle.nl_types.specs.Trees.{Tree, lookup, remove}
+use Rattle.nl_types.specs.Plain.Paths.{Path, path_cmp, same_path}
+use Rattle.nl_types.specs.Plain.Trees.{Tree, lookup, remove}
 use Rattle.nl_types.specs.Facts.Booleans.{holds, is_true, not_true}
 use Rattle.nl_types.specs.Facts.Lookups.{same_path-itself, lookup-remove}
 use Rattle.nl_types.specs.Facts.TreeLaws.{path_total, same_path-equal}

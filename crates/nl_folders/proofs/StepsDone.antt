@@ -6,9 +6,9 @@ use Rattle.std.proofs.lemmas.List.{length_push, map_push}
 use Rattle.nl_types.specs.declared.error.VolError.{VolError}
 use Rattle.nl_types.specs.declared.reply.Answer.{Answer}
 use Rattle.nl_types.specs.declared.reply.Node.TheVariants.{Dir}
-use Rattle.nl_types.specs.Paths.{Name, Path, same_path, is_within}
-use Rattle.nl_types.specs.Trees.{Tree, IsTree, lookup}
-use Rattle.nl_types.specs.Calls.{change, walk}
+use Rattle.nl_types.specs.Plain.Paths.{Name, Path, same_path, is_within}
+use Rattle.nl_types.specs.Plain.Trees.{Tree, IsTree, lookup}
+use Rattle.nl_types.specs.Plain.Calls.{change, walk}
 use Rattle.nl_types.specs.Facts.Booleans.{not_true}
 use Rattle.nl_types.specs.Facts.Lookups.{is_within-append, same_path-itself, within_both, within_is}
 use Rattle.nl_types.specs.Facts.TreeLaws.{same_path-equal}
@@ -16,7 +16,7 @@ use Rattle.nl_folders.proofs.DoneCalls.{IsDoneAt, mkdir_done, walk_below}
 use Rattle.nl_folders.proofs.Renames.{IsRenamed, node_renamed, not_root, rename_done}
 use Rattle.nl_folders.proofs.SortedTrees.{found_at_place}
 use Rattle.nl_folders.proofs.TreePaths.{above_is, ending_of}
-use Rattle.nl_folders.specs.declared.sides.Move.{Move}
+use Rattle.nl_folders.specs.declared.sides.Relocation.{Relocation}
 use Rattle.nl_folders.specs.declared.sides.Step.{Step}
 use Rattle.nl_folders.specs.declared.sides.Step.TheVariants.{Make, Relocate}
 use Rattle.nl_folders.specs.Facts.CallLists.{after_both, after_one}
@@ -318,7 +318,7 @@ module _ (s : TwoSides) (p : IsNameable s.present) (w : IsNameable s.wanted) (c 
 
   -- ---- a part
 
-  module _ (m : Move) (from_in : m.from < length s.present) (to_in : m.to < length s.wanted) (some : 0 < m.count)
+  module _ (m : Relocation) (from_in : m.from < length s.present) (to_in : m.to < length s.wanted) (some : 0 < m.count)
       (may : MayMove s m) where
     -- nothing has gone from where it stands
     own_stays : has_gone s.present s.steps (path_at s.present m.from) ≡ false

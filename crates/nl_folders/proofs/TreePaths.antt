@@ -4,8 +4,8 @@ use Rattle.std.specs.declared.cmp.Ordering.TheVariants.{Less}
 use Rattle.std.specs.Ordering.{ordering_then}
 use Rattle.std.specs.Cmp.{tied_itself}
 use Rattle.std.specs.Cmp.Lexicographic.{nat_list_cmp_total}
-use Rattle.nl_types.specs.Paths.{Name, Path, path_cmp, same_path, is_within}
-use Rattle.nl_types.specs.Trees.{Tree, IsTree, lookup}
+use Rattle.nl_types.specs.Plain.Paths.{Name, Path, path_cmp, same_path, is_within}
+use Rattle.nl_types.specs.Plain.Trees.{Tree, IsTree, lookup}
 use Rattle.nl_types.specs.Facts.Lookups.{same_path-itself, within_is}
 use Rattle.nl_types.specs.Facts.TreeLaws.{same_path-equal}
 

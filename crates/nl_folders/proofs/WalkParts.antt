@@ -10,8 +10,8 @@ use Rattle.std.proofs.lemmas.Option.{same_Some}
 use Rattle.nl_types.specs.declared.kind.Kind.{Kind}
 use Rattle.nl_types.specs.declared.reply.Node.{Node}
 use Rattle.nl_types.specs.declared.reply.Node.TheVariants.{Dir, File}
-use Rattle.nl_types.specs.Paths.{Name, Path, name_cmp, path_cmp, same_name, same_path, is_within}
-use Rattle.nl_types.specs.Trees.{Tree, IsTree, lookup, children, node_kind}
+use Rattle.nl_types.specs.Plain.Paths.{Name, Path, name_cmp, path_cmp, same_name, same_path, is_within}
+use Rattle.nl_types.specs.Plain.Trees.{Tree, IsTree, lookup, children, node_kind}
 use Rattle.nl_types.specs.Facts.Booleans.{holds, is_true, not_true, or_right}
 use Rattle.nl_types.specs.Facts.Children.{children-sorted, find-children}
 use Rattle.nl_types.specs.Facts.Lookups.{is_within-append, path_cmp-append, same_name-equal, same_name-itself, same_path-itself, within_is}

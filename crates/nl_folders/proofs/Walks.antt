@@ -14,9 +14,9 @@ use Rattle.nl_types.specs.declared.kind.Kind.TheVariants as kind
 use Rattle.nl_types.specs.declared.reply.Named.{Named}
 use Rattle.nl_types.specs.declared.reply.Node.{Node}
 use Rattle.nl_types.specs.declared.reply.Node.TheVariants.{Dir, File}
-use Rattle.nl_types.specs.Paths.{Name, Path, name_cmp, path_cmp, same_name, is_within}
-use Rattle.nl_types.specs.Trees.{Tree, IsTree, lookup, children, node_kind}
-use Rattle.nl_types.specs.Calls.{and_then, dir_at, file_at, list, named}
+use Rattle.nl_types.specs.Plain.Paths.{Name, Path, name_cmp, path_cmp, same_name, is_within}
+use Rattle.nl_types.specs.Plain.Trees.{Tree, IsTree, lookup, children, node_kind}
+use Rattle.nl_types.specs.Plain.Calls.{and_then, dir_at, file_at, list, named}
 use Rattle.nl_types.specs.Facts.Booleans.{holds, is_true, not_true}
 use Rattle.nl_types.specs.Facts.Children.{children-sorted, find-children}
 use Rattle.nl_types.specs.Facts.Judgements.{file_at_is, dir_at_is}

@@ -5,7 +5,7 @@ use Rattle.std.specs.List.{range_with_len}
 use Rattle.std.specs.Str.{bytes_eq}
 use Rattle.nl_types.specs.declared.event.Change.{Change}
 use Rattle.nl_types.specs.declared.event.Change.TheVariants.{Write, Truncate}
-use Rattle.nl_types.specs.Calls.{resized}
+use Rattle.nl_types.specs.Plain.Calls.{resized}
 
 -- how many blocks a file of so many bytes has
 abbrev pub blocks_in : ℕ → ℕ

@@ -6,8 +6,8 @@ use Rattle.std.specs.FinMap.{find, is_sorted}
 use Rattle.std.specs.FinMap.Entries.{by_order}
 use Rattle.nl_types.specs.declared.reply.Node.{Node}
 use Rattle.nl_types.specs.declared.reply.Node.TheVariants.{Dir, File}
-use Rattle.nl_types.specs.Paths.{Path, path_cmp}
-use Rattle.nl_types.specs.Trees.{Tree, lookup}
+use Rattle.nl_types.specs.Plain.Paths.{Path, path_cmp}
+use Rattle.nl_types.specs.Plain.Trees.{Tree, lookup}
 use Rattle.nl_folders.specs.declared.differences.Difference.{Difference}
 use Rattle.nl_folders.specs.declared.differences.Difference.TheVariants.{Added, Removed, Rewritten, Replaced}
 

@@ -1,8 +1,8 @@
 -- What lies below a path.
 use Rattle.std.specs.Prelude.{◌≡◌, ◌++◌, List, map, length, drop}
 use Rattle.std.specs.List.{filter}
-use Rattle.nl_types.specs.Paths.{Path, is_within}
-use Rattle.nl_types.specs.Trees.{Tree, lookup}
+use Rattle.nl_types.specs.Plain.Paths.{Path, is_within}
+use Rattle.nl_types.specs.Plain.Trees.{Tree, lookup}
 
 -- what lies at a path or below it, with what is left of the paths there
 abbrev pub part_below : {X : Type 0} → List (Path × X) → Path → List (Path × X)

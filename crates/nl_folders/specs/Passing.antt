@@ -3,8 +3,8 @@ use Rattle.std.specs.Prelude.{◌≡◌, if◌then◌else◌, IsTrue, Bool, List
 use Rattle.std.specs.FinMap.{is_sorted}
 use Rattle.nl_types.specs.declared.reply.Node.{Node}
 use Rattle.nl_types.specs.declared.reply.Node.TheVariants.{Dir, File}
-use Rattle.nl_types.specs.Paths.{Path, path_cmp}
-use Rattle.nl_types.specs.Trees.{Tree, IsTree, lookup}
+use Rattle.nl_types.specs.Plain.Paths.{Path, path_cmp}
+use Rattle.nl_types.specs.Plain.Trees.{Tree, IsTree, lookup}
 use Rattle.nl_folders.specs.Differences.{differences}
 
 -- a node whose bytes don't count

@@ -5,9 +5,9 @@ use Rattle.nl_types.specs.declared.event.Change.{Change}
 use Rattle.nl_types.specs.declared.event.Change.TheVariants.{Create, Mkdir, Write, Truncate, Unlink, Rmdir, Rename}
 use Rattle.nl_types.specs.declared.reply.Node.{Node}
 use Rattle.nl_types.specs.declared.reply.Node.TheVariants.{Dir, File}
-use Rattle.nl_types.specs.Paths.{Path, is_within}
-use Rattle.nl_types.specs.Trees.{Tree, IsTree, IsIn, lookup}
-use Rattle.nl_types.specs.Calls.{and_then, change}
+use Rattle.nl_types.specs.Plain.Paths.{Path, is_within}
+use Rattle.nl_types.specs.Plain.Trees.{Tree, IsTree, IsIn, lookup}
+use Rattle.nl_types.specs.Plain.Calls.{and_then, change}
 use Rattle.nl_folders.specs.Blocks.{IsOfOtherBlocks}
 use Rattle.nl_folders.specs.Differences.{same_kind, difference_of}
 use Rattle.nl_folders.specs.Spelled.{spelling, IsNameable}

@@ -1,9 +1,9 @@
 -- When what a folder shows isn't read.
 use Rattle.std.specs.Prelude.{◌≡◌, ◌⊎◌, ◌<◌, length}
 use Rattle.nl_types.specs.declared.error.VolError.TheVariants.{BadPath, Memory}
-use Rattle.nl_types.specs.Limits.{path_length_limit}
-use Rattle.nl_types.specs.Paths.{Path}
-use Rattle.nl_types.specs.Trees.{Tree, IsIn}
+use Rattle.nl_types.specs.Plain.Limits.{path_length_limit}
+use Rattle.nl_types.specs.Plain.Paths.{Path}
+use Rattle.nl_types.specs.Plain.Trees.{Tree, IsIn}
 use Rattle.nl_folders.specs.declared.folder.FolderError.{FolderError}
 use Rattle.nl_folders.specs.declared.folder.FolderError.TheVariants.{Refused}
 use Rattle.nl_folders.specs.Spelled.{spelling}

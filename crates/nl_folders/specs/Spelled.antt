@@ -1,9 +1,9 @@
 -- The bytes of paths.
 use Rattle.std.specs.Prelude.{ℕ, ◌≤◌, List, [], ◌∷◌, ◌++◌, length}
-use Rattle.nl_types.specs.Characters.{slash}
-use Rattle.nl_types.specs.Limits.{path_length_limit}
-use Rattle.nl_types.specs.Paths.{Path}
-use Rattle.nl_types.specs.Trees.{Tree, IsTree, IsIn}
+use Rattle.nl_types.specs.Plain.Characters.{slash}
+use Rattle.nl_types.specs.Plain.Limits.{path_length_limit}
+use Rattle.nl_types.specs.Plain.Paths.{Path}
+use Rattle.nl_types.specs.Plain.Trees.{Tree, IsTree, IsIn}
 
 -- each name behind a slash
 abbrev pub joined : Path → List ℕ

@@ -5,9 +5,9 @@ use Rattle.std.specs.Option.{option_map}
 use Rattle.nl_types.specs.declared.reply.Named.{Named}
 use Rattle.nl_types.specs.declared.reply.Node.{Node}
 use Rattle.nl_types.specs.declared.reply.Node.TheVariants.{Dir, File}
-use Rattle.nl_types.specs.Paths.{Path, is_within}
-use Rattle.nl_types.specs.Trees.{Tree, lookup, node_kind}
-use Rattle.nl_types.specs.Calls.{file_at, list}
+use Rattle.nl_types.specs.Plain.Paths.{Path, is_within}
+use Rattle.nl_types.specs.Plain.Trees.{Tree, lookup, node_kind}
+use Rattle.nl_types.specs.Plain.Calls.{file_at, list}
 use Rattle.nl_folders.specs.declared.folder.Pending.{Pending}
 
 -- a name in a directory, yet to be visited

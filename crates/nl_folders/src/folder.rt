@@ -2,8 +2,8 @@
 ghost use Rattle.std.specs.Prelude.{◌≡◌, ◌++◌, [], ℕ, List, IfErr, IfOk, OnOk, Ok};
 ghost use Rattle.nl_types.specs.declared.reply.Named.{Named};
 ghost use Rattle.nl_types.specs.declared.reply.Node.TheVariants.{Dir};
-ghost use Rattle.nl_types.specs.Trees.{Tree, IsTree};
-ghost use Rattle.nl_types.specs.Calls.{file_at, list};
+ghost use Rattle.nl_types.specs.Plain.Trees.{Tree, IsTree};
+ghost use Rattle.nl_types.specs.Plain.Calls.{file_at, list};
 ghost use Rattle.nl_folders.specs.Refusals.{RefusesPath, RefusesTree};
 ghost use Rattle.nl_folders.specs.Walks.{IsVisit, IsWalk, StandsIn, stacked};
 

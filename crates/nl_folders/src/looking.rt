@@ -4,8 +4,8 @@ ghost use Rattle.std.specs.Prelude.{◌≡◌, ◌-◌, ◌<◌, ◌≤◌, IsTr
 ghost use Rattle.std.specs.FinMap.{find, is_sorted};
 ghost use Rattle.std.specs.Option.{option_copied};
 ghost use Rattle.std.specs.Ordering.{is_lt};
-ghost use Rattle.nl_types.specs.Paths.{path_cmp};
-ghost use Rattle.nl_types.specs.Trees.{lookup};
+ghost use Rattle.nl_types.specs.Plain.Paths.{path_cmp};
+ghost use Rattle.nl_types.specs.Plain.Trees.{lookup};
 ghost use Rattle.nl_folders.specs.Private.Looking.{BeginsNotBelow, IsBetween, first_at};
 
 use crate::paths::{Name, Path, compare};

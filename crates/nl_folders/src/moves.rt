@@ -4,16 +4,16 @@ ghost use Rattle.std.specs.Prelude.{◌≡◌, ◌+◌, ◌<◌, ◌≤◌, ◌�
 ghost use Rattle.std.specs.FinMap.{is_sorted};
 ghost use Rattle.std.specs.Option.{option_copied};
 ghost use Rattle.nl_types.specs.declared.reply.Node.TheVariants.{Dir};
-ghost use Rattle.nl_types.specs.Limits.{path_limit};
-ghost use Rattle.nl_types.specs.Paths.{path_cmp};
-ghost use Rattle.nl_types.specs.Trees.{lookup};
+ghost use Rattle.nl_types.specs.Plain.Limits.{path_limit};
+ghost use Rattle.nl_types.specs.Plain.Paths.{path_cmp};
+ghost use Rattle.nl_types.specs.Plain.Trees.{lookup};
 ghost use Rattle.nl_folders.specs.Private.Moved.{IsMoved, cut};
 ghost use Rattle.nl_folders.specs.Private.Sides.{HasDirectoryAbove, IsPart, MayMake, MayMove};
 ghost use Rattle.nl_folders.specs.Spelled.{IsNameable};
 
 use crate::looking::{find_in, find_near, place_in};
 use crate::paths::{Name, Path, begins_with, compare, is_same_path};
-use crate::sides::{Move, Sides, are_free};
+use crate::sides::{Relocation, Sides, are_free};
 use crate::trees::{MOST_PATHS, is_same_node};
 use nl_types::{Items, Node};
 use std::alloc::{AllocError, Global};
@@ -81,7 +81,7 @@ fn moved_part(
     from: usize,
     wanted: &[(Path, Node)],
     to: usize,
-) -> Option<Move>
+) -> Option<Relocation>
     requires from { from < length present.now }
     requires to { to < length wanted.now }
     ensures { IfSome result (IsMoved present.now wanted.now) }
@@ -98,7 +98,7 @@ fn moved_part(
     if !are_same_below(old_part, old_path.len(), new_part, new_path.len()) {
         return None;
     }
-    Some(Move {
+    Some(Relocation {
         from,
         to,
         count: old_end - from,
@@ -409,7 +409,7 @@ fn pairs_between(
 // ---- steps
 
 /// Adds the step that moves a part, if no step has it or its new place yet, and the directory above is there.
-fn relocate(sides: &mut Sides<'_>, part: Move) -> Result<(), AllocError>
+fn relocate(sides: &mut Sides<'_>, part: Relocation) -> Result<(), AllocError>
     requires { IsMoved sides.old.present sides.old.wanted part }
     ensures present { sides.new.present ≡ sides.old.present }
     ensures wanted { sides.new.wanted ≡ sides.old.wanted }

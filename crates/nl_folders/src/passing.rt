@@ -1,7 +1,7 @@
 //! Folders that are compared without a read of files that are known to be one in both.
 ghost use Rattle.std.specs.Prelude.{◌≡◌, ◌⊎◌, Bool, IfErr, IfOk};
-ghost use Rattle.nl_types.specs.Paths.{Path};
-ghost use Rattle.nl_types.specs.Trees.{Tree, IsTree};
+ghost use Rattle.nl_types.specs.Plain.Paths.{Path};
+ghost use Rattle.nl_types.specs.Plain.Trees.{Tree, IsTree};
 ghost use Rattle.nl_folders.specs.Differences.{differences};
 ghost use Rattle.nl_folders.specs.Passing.{AreSameFiles};
 ghost use Rattle.nl_folders.specs.Refusals.{RefusesTree};

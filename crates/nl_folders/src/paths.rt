@@ -1,6 +1,6 @@
 //! Paths as lists of names.
 ghost use Rattle.std.specs.Prelude.{◌≡◌, ◌≤◌, [], ◌∷◌, ◌++◌, true, length, IfOk, OnOk};
-ghost use Rattle.nl_types.specs.Paths.{same_path, path_cmp, is_within};
+ghost use Rattle.nl_types.specs.Plain.Paths.{same_path, path_cmp, is_within};
 ghost use Rattle.nl_folders.specs.Spelled.{joined, spelling};
 
 use nl_types::Items;

@@ -4,7 +4,7 @@ ghost use Rattle.std.specs.Prelude.{◌≡◌, ◌<◌, ◌≤◌, ◌==◌, len
 ghost use Rattle.std.specs.List.{list_all};
 ghost use Rattle.std.specs.Str.{bytes_eq};
 ghost use Rattle.nl_types.specs.declared.event.Change.TheVariants.{Truncate};
-ghost use Rattle.nl_types.specs.Calls.{resized};
+ghost use Rattle.nl_types.specs.Plain.Calls.{resized};
 ghost use Rattle.nl_folders.specs.Blocks.{block_stands, blocks_in};
 ghost use Rattle.nl_folders.specs.Private.Rewriting.{BlocksStand, IsNextRun, MakesFile, RewritesFile, place_of, write_of};
 ghost use Rattle.nl_folders.specs.Spelled.{spelling};

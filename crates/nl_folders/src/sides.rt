@@ -10,7 +10,7 @@ use std::marker::Model;
 
 /// A part that moves, by where its entries begin in each tree, and how many they are.
 #[derive(Clone, Copy, Drop)]
-pub(crate) struct Move {
+pub(crate) struct Relocation {
     pub(crate) from: usize,
     pub(crate) to: usize,
     pub(crate) count: usize,
@@ -22,7 +22,7 @@ pub(crate) enum Step {
     /// Makes the directory of a wanted entry, so that something can move into it.
     Make(usize),
     /// Renames a part.
-    Relocate(Move),
+    Relocate(Relocation),
 }
 
 // ---- flags
@@ -161,7 +161,7 @@ impl<'a> Sides<'a> {
     }
 
     /// Adds the step that renames a part.
-    pub(crate) fn relocate(&mut self, part: Move) -> Result<(), AllocError>
+    pub(crate) fn relocate(&mut self, part: Relocation) -> Result<(), AllocError>
         requires from { part.from + part.count ≤ length self.old.present }
         requires to { part.to + part.count ≤ length self.old.wanted }
         requires some { 0 < part.count }

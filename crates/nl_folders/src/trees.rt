@@ -1,11 +1,12 @@
 //! A tree as the list of its entries, in the order of their paths.
 ghost use Rattle.std.specs.Prelude.{◌≡◌, ◌++◌, [], ◌∷◌, IsTrue, IfOk, OnOk};
 ghost use Rattle.std.specs.Option.{option_copied};
-ghost use Rattle.nl_types.specs.Trees.{lookup};
+ghost use Rattle.nl_types.specs.Plain.Trees.{lookup};
 ghost use Rattle.nl_folders.specs.Differences.{same_kind, same_node, rising};
 ghost use Rattle.nl_folders.specs.Parts.{part_below};
 
 use crate::paths::{Name, Path, begins_with, compare, copied};
+use nl_types::limits::PATH_LIMIT;
 use nl_types::{Items, Node};
 use std::alloc::{AllocError, Global};
 
@@ -13,7 +14,7 @@ use std::alloc::{AllocError, Global};
 pub type Tree = Items<(Path, Node)>;
 
 /// The most paths of a tree, the root's included.
-pub(crate) const MOST_PATHS: usize = 524_278;
+pub(crate) const MOST_PATHS: usize = PATH_LIMIT + 1;
 
 /// Whether the entries stand in the order of their paths, none twice.
 pub fn is_in_order(entries: &[(Path, Node)]) -> bool

@@ -2,7 +2,7 @@
 use Rattle.std.proofs.Common.{◌≡◌, ℕ, ◌+◌, ◌<◌, ◌≤◌, Bool, true, false, cond, ◌&&◌, List, [], ◌∷◌, ◌++◌, length, take, get_or, refl, sym, ap, ◌∙◌, arith, eqb-true}
 use Rattle.std.specs.Prelude.{◌==◌}
 use Rattle.std.proofs.lemmas.List.{take_more}
-use Rattle.nl_types.specs.Characters.{slash}
+use Rattle.nl_types.specs.Plain.Characters.{slash}
 use Rattle.nl_types.specs.Facts.Booleans.{not_true}
 use Rattle.nl_host.specs.Patterns.{is_nothing, without_end}
 use Rattle.nl_host.specs.Selections.{is_begun}

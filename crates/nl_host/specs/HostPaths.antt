@@ -2,7 +2,7 @@
 use Rattle.std.specs.Prelude.{ℕ, ◌+◌, Bool, true, false, ◌&&◌, ◌==◌, not, if◌then◌else◌, List, [], ◌∷◌, ◌++◌, length, take, string_bytes}
 use Rattle.std.specs.List.{flat_map}
 use Rattle.std.specs.Str.{is_utf8}
-use Rattle.nl_types.specs.Paths.{Path, is_name}
+use Rattle.nl_types.specs.Plain.Paths.{Path, is_name}
 use Rattle.nl_folders.specs.Spelled.{joined}
 use Rattle.nl_host.specs.declared.left_out.LeftOut.{LeftOut}
 use Rattle.nl_host.specs.declared.left_out.Reason.{Reason}

@@ -1,7 +1,7 @@
 -- Which texts have the form of a pattern, in which `*` stands for any bytes and `?` for one, but not for `/`.
 use Rattle.std.specs.Prelude.{ℕ, Bool, true, false, ◌&&◌, ◌||◌, ◌==◌, not, if◌then◌else◌, List, [], ◌∷◌}
 use Rattle.std.specs.List.{list_any}
-use Rattle.nl_types.specs.Characters.{slash}
+use Rattle.nl_types.specs.Plain.Characters.{slash}
 
 abbrev pub star : ℕ
 star = 42

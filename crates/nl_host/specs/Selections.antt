@@ -1,7 +1,7 @@
 -- What below a folder of the host is passed over.
 use Rattle.std.specs.Prelude.{ℕ, Bool, false, ◌&&◌, ◌||◌, ◌==◌, not, if◌then◌else◌, List, [], ◌∷◌, take, drop, codes}
 use Rattle.std.specs.Str.{all_ascii_digits, bytes_eq}
-use Rattle.nl_types.specs.Characters.{dot}
+use Rattle.nl_types.specs.Plain.Characters.{dot}
 use Rattle.nl_host.specs.declared.patterns.Pattern.{Pattern}
 use Rattle.nl_host.specs.declared.selection.Selection.{Selection}
 use Rattle.nl_host.specs.Patterns.{has_form, is_nothing}

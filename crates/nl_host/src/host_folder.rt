@@ -7,7 +7,8 @@ use crate::left_out::{LeftOut, Reason, TooBig};
 use crate::selection::{Selection, is_reserved};
 use nl_folders::{FolderError, Name};
 use nl_manifests::Attributes;
-use nl_types::{Items, VolError};
+use nl_types::limits::{FILE_LIMIT, PATH_LENGTH_LIMIT, VOLUME_BLOCK_LIMIT};
+use nl_types::{BLOCK_SIZE, Items, VolError};
 use std::alloc::Global;
 use std::fs::{DirEntry, Metadata, OpenFile};
 use std::io::{ErrorKind, Read};
@@ -15,14 +16,8 @@ use std::os::unix::fs::MetadataExt;
 use std::rt::Files;
 use std::{fs, io};
 
-/// The most bytes that a file of a volume has.
-const MOST_BYTES: u64 = 67_108_864;
-
 /// The most bytes that a volume has. Once the files of a folder have more, no more of them is read.
-const MOST_BYTES_IN_ALL: u64 = 268_435_456;
-
-/// The most bytes of a path in a volume, the slash in front counted.
-const MOST_PATH_BYTES: usize = 4095;
+const MOST_BYTES_IN_ALL: u64 = VOLUME_BLOCK_LIMIT as u64 * BLOCK_SIZE as u64;
 
 /// How many bytes the path of a manifest has behind that of its directory.
 const MANIFEST_BYTES: usize = 8;
@@ -179,7 +174,7 @@ impl<'a, R: AllocGlobal + Files + Clone + Drop> HostFolder<'a, R> {
         } else {
             return Judged::LeftOut(Reason::Special);
         };
-        if kind == Kind::File && metadata.len() > MOST_BYTES {
+        if kind == Kind::File && metadata.len() > FILE_LIMIT {
             return Judged::TooBig(metadata.len());
         }
         if self.is_readable(path, kind) {
@@ -211,7 +206,7 @@ impl<'a, R: AllocGlobal + Files + Clone + Drop> HostFolder<'a, R> {
         if is_reserved(name) {
             return Judged::LeftOut(Reason::Reserved);
         }
-        if self.path_bytes(below, metadata) > MOST_PATH_BYTES {
+        if self.path_bytes(below, metadata) > PATH_LENGTH_LIMIT {
             return Judged::LeftOut(Reason::LongPath);
         }
         self.judge_kind(path, metadata)
@@ -311,9 +306,9 @@ impl<'a, R: AllocGlobal + Files + Clone + Drop> HostFolder<'a, R> {
     fn read_once(&self, alloc: Global, path: &str) -> io::Result<FileRead> {
         let mut file = fs::open(self.files, path)?;
         let before = state_of(&file.metadata()?);
-        let room = usize::try_from(before.size.min(MOST_BYTES)).unwrap_or(0);
+        let room = usize::try_from(before.size.min(FILE_LIMIT)).unwrap_or(0);
         let mut bytes = Vec::with_capacity(alloc, room)?;
-        file.by_ref().take(MOST_BYTES).read_to_end(&mut bytes)?;
+        file.by_ref().take(FILE_LIMIT).read_to_end(&mut bytes)?;
         let metadata = file.metadata()?;
         let after = state_of(&metadata);
         let is_same = before == after && bytes.len() as u64 == after.size;

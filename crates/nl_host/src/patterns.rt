@@ -1,6 +1,6 @@
 //! Patterns of paths, as `--exclude` takes them.
 ghost use Rattle.std.specs.Prelude.{◌≡◌, ◌==◌, if◌then◌else◌};
-ghost use Rattle.nl_types.specs.Characters.{slash};
+ghost use Rattle.nl_types.specs.Plain.Characters.{slash};
 ghost use Rattle.nl_host.specs.Patterns.{has_form, has_slash, stands_for, without_end, without_front};
 
 /// Whether one byte of a pattern stands for a byte.

@@ -2,12 +2,13 @@
 use crate::host_folder::{Found, HostFolder, Kind};
 use nl_folders::{FolderError, Name, Path, copied, with_name};
 use nl_manifests::{Attributes, HostEntry, HostNode, HostTree};
+use nl_types::limits::PATH_LIMIT;
 use nl_types::{Items, VolError};
 use std::alloc::Global;
 use std::rt::Files;
 
 /// The most paths of a tree, the root's included.
-const MOST_PATHS: usize = 524_278;
+const MOST_PATHS: usize = PATH_LIMIT + 1;
 
 /// Who is told of each file that was read.
 pub trait Watching {

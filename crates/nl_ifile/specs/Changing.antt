@@ -1,9 +1,9 @@
 -- Changes of inodes.
 use Rattle.std.specs.Prelude.{◌≡◌, ℕ, ◌==◌, ◌<◌, if◌then◌else◌, ◌/◌, ◌≤◌, slice_index_or, length, take, List, [], ◌∷◌}
 use Rattle.std.specs.List.{All, AllPairs}
-use Rattle.nl_types.specs.Limits.{inode_file_number, inode_limit}
-use Rattle.nl_types.specs.Entries.{Content}
-use Rattle.nl_types.specs.Roots.{Blocks, Root, pages_of}
+use Rattle.nl_types.specs.Plain.Limits.{inode_file_number, inode_limit}
+use Rattle.nl_types.specs.Blocks.Entries.{Content}
+use Rattle.nl_types.specs.Blocks.Roots.{Blocks, Root, pages_of}
 use Rattle.nl_vstore.specs.Batches.{Changes}
 use Rattle.nl_blocktree.specs.declared.change.BlockChange.{BlockChange}
 use Rattle.nl_blocktree.specs.Changed.{IndexesAreInRange, IndexesAscend, blocks_with}

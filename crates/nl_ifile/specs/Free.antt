@@ -1,7 +1,7 @@
 -- Free inode numbers. No inode has a number above 524,287.
 use Rattle.std.specs.Prelude.{◌≡◌, ℕ, ◌+◌, ◌*◌, ◌/◌, ◌%◌, ◌≤◌, ◌<◌, ◌==◌, if◌then◌else◌, List, [], ◌∷◌, IsSome, Option, None, Some}
 use Rattle.std.specs.Option.{option_and_then}
-use Rattle.nl_types.specs.Limits.{inode_limit}
+use Rattle.nl_types.specs.Plain.Limits.{inode_limit}
 use Rattle.nl_types.specs.Inodes.{AreInUseFrom, IsLowestFreeInode}
 use Rattle.nl_ifile.specs.declared.change.InodeChange.{InodeChange}
 use Rattle.nl_ifile.specs.Inodes.{InodeMap, inode_in}

@@ -3,7 +3,7 @@ use Rattle.std.specs.Prelude.{◌≡◌, ℕ, ◌+◌, ◌*◌, ◌/◌, ◌%◌
 use Rattle.std.specs.List.{flat_map, list_any}
 use Rattle.std.specs.Option.{option_and_then}
 use Rattle.std.specs.Str.{bytes_eq}
-use Rattle.nl_types.specs.Roots.{Pages, Root, page_at}
+use Rattle.nl_types.specs.Blocks.Roots.{Pages, Root, page_at}
 use Rattle.nl_layout.specs.declared.inode.Inode.{Inode}
 use Rattle.nl_layout.specs.declared.inode.InodeEntry.{InodeEntry}
 use Rattle.nl_layout.specs.declared.inode.InodeEntry.TheVariants.{Free, InUse}

@@ -1,6 +1,6 @@
 //! The blocks that changes of inodes touch.
 ghost use Rattle.std.specs.Prelude.{◌≡◌, ◌≤◌, ◌<◌, ◌/◌, ℕ, Option, length, slice_index_or, take, drop, All, IfOk, IfErr};
-ghost use Rattle.nl_types.specs.Roots.{page_at};
+ghost use Rattle.nl_types.specs.Blocks.Roots.{page_at};
 ghost use Rattle.nl_layout.specs.Root.{root_of};
 ghost use Rattle.nl_layout.specs.Inode.{EntryHasSpelling};
 ghost use Rattle.nl_layout.specs.declared.inode.Inode.{Inode};

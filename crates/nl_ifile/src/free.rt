@@ -1,6 +1,6 @@
 //! Free inode numbers.
 ghost use Rattle.std.specs.Prelude.{◌≡◌, ◌<◌, option_copied};
-ghost use Rattle.nl_types.specs.Limits as limits;
+ghost use Rattle.nl_types.specs.Plain.Limits as limits;
 ghost use Rattle.nl_layout.specs.Root.{root_of};
 ghost use Rattle.nl_ifile.specs.Inodes.{inode_at};
 ghost use Rattle.nl_ifile.specs.Changing.{NumbersAscend, inodes_with};
@@ -10,15 +10,9 @@ use crate::change::InodeChange;
 use crate::read::{INODES_PER_BLOCK, inode_in_page};
 use nl_blocktree::Cursor;
 use nl_layout::{Inode, Root};
+use nl_types::limits::LAST_INODE;
 use nl_types::{InodeNumber, Page};
 use nl_vstore::VRead;
-
-/// The lowest number of an ordinary inode. Those below are the root's and those of files that the volume
-/// itself has.
-pub const FIRST_INODE: u64 = 11;
-
-/// The greatest number of an inode.
-pub const LAST_INODE: u64 = 524_287;
 
 /// The lowest number from `from` on that is free when the changes are made, or none where all up to 524,287
 /// are in use. It takes no memory.

@@ -8,6 +8,6 @@ mod put;
 mod read;
 
 pub use change::InodeChange;
-pub use free::{FIRST_INODE, LAST_INODE, next_ino};
-pub use put::{INODE_FILE, put_inodes};
+pub use free::next_ino;
+pub use put::put_inodes;
 pub use read::inode;

@@ -1,6 +1,6 @@
 //! Changing inodes.
 ghost use Rattle.std.specs.Prelude.{◌≡◌, ◌<◌, ◌*◌, ℕ, length, All, OnErr, IfOk, IfErr};
-ghost use Rattle.nl_types.specs.Roots.{pages_of};
+ghost use Rattle.nl_types.specs.Blocks.Roots.{pages_of};
 ghost use Rattle.nl_layout.specs.Root.{root_of};
 ghost use Rattle.nl_vstore.specs.Stores.{content_in};
 ghost use Rattle.nl_blocktree.specs.Numbering.{CanTake};
@@ -12,12 +12,10 @@ use crate::change::InodeChange;
 use crate::changed_block::changed_blocks;
 use nl_blocktree::put_all;
 use nl_layout::Root;
+use nl_types::limits::INODE_FILE_NUMBER;
 use nl_types::{InodeNumber, VolError};
 use nl_vstore::{Batch, Vstore};
 use std::alloc::Global;
-
-/// The inode of the file of inodes itself, as in nilfs2.rst.
-pub const INODE_FILE: u64 = 6;
 
 /// Changes inodes: adds to the batch what is born and what ends by it, and answers the root of the changed
 /// file. A block of inodes is there exactly where one of its eight is in use, and one that has the same bytes
@@ -46,7 +44,7 @@ pub fn put_inodes<V: Vstore>(
         alloc,
         store,
         batch,
-        InodeNumber::new(INODE_FILE),
+        InodeNumber::new(INODE_FILE_NUMBER),
         root,
         &blocks,
     )

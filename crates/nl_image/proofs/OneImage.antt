@@ -7,8 +7,8 @@ use Rattle.std.proofs.lemmas.Bool.{cases_eq, cases_order}
 use Rattle.std.proofs.lemmas.List.{ext_get_or}
 use Rattle.std.proofs.lemmas.List.Elements.{All-head, All-tail}
 use Rattle.std.proofs.lemmas.Option.{same_Some, slice_get-get_or}
-use Rattle.nl_types.specs.Roots.{Pages, Root, page_at, pages_of, place_at}
-use Rattle.nl_types.specs.Segments.{IsUsed}
+use Rattle.nl_types.specs.Blocks.Roots.{Pages, Root, page_at, pages_of, place_at}
+use Rattle.nl_types.specs.Blocks.Segments.{IsUsed}
 use Rattle.nl_layout.specs.Root.{fields_of, root_of, root_told}
 use Rattle.nl_layout.specs.declared.checkpoint_entry.CheckpointEntry.{CheckpointEntry}
 use Rattle.nl_layout.specs.declared.root.Root as layout
@@ -19,8 +19,8 @@ use Rattle.nl_vstore.specs.Stores.{Store, content_in, space_in}
 use Rattle.nl_cpfile.specs.declared.checkpoint.Checkpoint.{Checkpoint}
 use Rattle.nl_check.specs.Conditions.{AreShaped, IsSoundShape}
 use Rattle.nl_check.specs.Judging.{told}
-use Rattle.nl_check.specs.Shapes.{HasShape, Itself}
-use Rattle.nl_check.specs.Trees.{IsSizeOf}
+use Rattle.nl_check.specs.Shapes.{Itself}
+use Rattle.nl_blocktree.specs.FileShapes.{HasShape, IsSizeOf}
 use Rattle.nl_check.specs.Facts.Below.{not-none, some-by}
 use Rattle.nl_image.specs.Parts.{image_bytes}
 use Rattle.nl_image.specs.StoreImages.{IsImageOf, IsSizedEntry, parts_of}

@@ -2,8 +2,8 @@
 use Rattle.std.proofs.Common.{◌≡◌, ◌∙◌, ℕ, ◌+◌, ◌*◌, ◌<◌, ◌≤◌, List, [], ◌∷◌, length, drop, refl, ap, sym, subst, arith, None, Some, Option}
 use Rattle.std.specs.Prelude.{All}
 use Rattle.std.specs.Option.{option_map}
-use Rattle.nl_types.specs.Segments as segments
-use Rattle.nl_types.specs.Segments.{IsUsed, Segments, total_blocks}
+use Rattle.nl_types.specs.Blocks.Segments as segments
+use Rattle.nl_types.specs.Blocks.Segments.{IsUsed, Segments, total_blocks}
 use Rattle.nl_layout.specs.declared.checkpoint_entry.CheckpointEntry.{CheckpointEntry}
 use Rattle.nl_segwriter.specs.Images as spaces
 use Rattle.nl_segwriter.specs.Images.{HoldLogs, page_in}

@@ -3,10 +3,10 @@ use Rattle.std.proofs.Common.{◌≡◌, ◌∙◌, ℕ, ◌*◌, ◌≤◌, Lis
 use Rattle.std.specs.Prelude.{map}
 use Rattle.std.proofs.lemmas.List.{take-take}
 use Rattle.std.proofs.lemmas.Slice.Zip.{AllZip-long}
-use Rattle.nl_types.specs.Limits.{IsGeometry}
-use Rattle.nl_types.specs.Roots as roots
-use Rattle.nl_types.specs.Roots.{Pages}
-use Rattle.nl_types.specs.Segments.{IsUsed, total_blocks}
+use Rattle.nl_types.specs.Plain.Limits.{IsGeometry}
+use Rattle.nl_types.specs.Blocks.Roots as roots
+use Rattle.nl_types.specs.Blocks.Roots.{Pages}
+use Rattle.nl_types.specs.Blocks.Segments.{IsUsed, total_blocks}
 use Rattle.nl_device.specs.Pages.{DevicePages}
 use Rattle.nl_layout.specs.Superblock.{HasMark, mark_bytes, superblock_bytes}
 use Rattle.nl_layout.specs.declared.superblock.Mark.{Mark}

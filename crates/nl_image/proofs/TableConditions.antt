@@ -5,7 +5,7 @@ use Rattle.std.proofs.lemmas.List.{length-drop, length-take-le}
 use Rattle.nl_types.specs.declared.error.VolError.{VolError}
 use Rattle.nl_types.specs.declared.error.VolError.TheVariants.{BadImage, Memory}
 use Rattle.nl_types.specs.declared.geometry.Geometry.{Geometry}
-use Rattle.nl_types.specs.Segments.{Segments, total_blocks}
+use Rattle.nl_types.specs.Blocks.Segments.{Segments, total_blocks}
 use Rattle.nl_layout.specs.declared.checkpoint_entry.CheckpointEntry.{CheckpointEntry}
 use Rattle.nl_layout.specs.declared.superblock.Superblock.{Superblock}
 use Rattle.nl_sufile.specs.Images.{IsSufileOf}

@@ -2,8 +2,8 @@
 use Rattle.std.specs.Prelude.{◌≡◌, ℕ, zero, suc, ◌-◌, ◌≤◌, List, [], ◌∷◌, length, map, replicate, slice_get, take, Option, Some}
 use Rattle.std.specs.Option.{option_and_then, option_map, option_map_or}
 use Rattle.nl_types.specs.declared.geometry.Geometry.{Geometry}
-use Rattle.nl_types.specs.Limits.{IsGeometry}
-use Rattle.nl_types.specs.Roots.{Pages}
+use Rattle.nl_types.specs.Plain.Limits.{IsGeometry}
+use Rattle.nl_types.specs.Blocks.Roots.{Pages}
 use Rattle.nl_device.specs.Pages.{DevicePages}
 use Rattle.nl_layout.specs.declared.checkpoint_entry.CheckpointEntry.{CheckpointEntry}
 use Rattle.nl_layout.specs.declared.superblock.Superblock.{Superblock}

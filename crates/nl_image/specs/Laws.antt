@@ -1,6 +1,6 @@
 -- What the conditions of an image have to do with one another.
 use Rattle.std.specs.Prelude.{◌≡◌, ℕ, ◌≤◌, List, length, map, Some}
-use Rattle.nl_types.specs.Roots.{pages_of}
+use Rattle.nl_types.specs.Blocks.Roots.{pages_of}
 use Rattle.nl_layout.specs.declared.checkpoint_entry.CheckpointEntry.{CheckpointEntry}
 use Rattle.nl_vstore.specs.Periods.{periods_of}
 use Rattle.nl_vstore.specs.Stores.{IsStore, Store, content_in}

@@ -1,7 +1,7 @@
 -- The pages and periods of numbers, where their table and the pages of blocks were read.
 use Rattle.std.specs.Prelude.{List, ℕ, Option}
 use Rattle.std.specs.Option.{option_and_then, option_map}
-use Rattle.nl_types.specs.Roots.{Pages}
+use Rattle.nl_types.specs.Blocks.Roots.{Pages}
 use Rattle.nl_vstore.specs.Periods.{Periods}
 use Rattle.nl_segwriter.specs.Images.{page_in}
 use Rattle.nl_dat.specs.declared.entries.DatEntry.{DatEntry}

@@ -2,8 +2,8 @@
 use Rattle.std.specs.Prelude.{◌≡◌, ◌⊎◌, ◌<◌, ◌≤◌, ℕ, List, All, drop, length, replicate, IfSome, Option, Some}
 use Rattle.nl_types.specs.declared.error.VolError.{VolError}
 use Rattle.nl_types.specs.declared.error.VolError.TheVariants.{BadImage, Memory}
-use Rattle.nl_types.specs.Segments as segments
-use Rattle.nl_types.specs.Segments.{Segments, total_blocks}
+use Rattle.nl_types.specs.Blocks.Segments as segments
+use Rattle.nl_types.specs.Blocks.Segments.{Segments, total_blocks}
 use Rattle.nl_layout.specs.declared.checkpoint_entry.CheckpointEntry.{CheckpointEntry}
 use Rattle.nl_layout.specs.declared.superblock.Superblock.{Superblock}
 use Rattle.nl_space.specs.Content.{HeldPayload, Payload}
@@ -20,7 +20,7 @@ use Rattle.nl_cpfile.specs.Images.{AreRising}
 use Rattle.nl_check.specs.declared.conditions.ImageCondition.TheVariants as condition
 use Rattle.nl_image.specs.declared.reading.ReadImage.{ReadImage}
 use Rattle.nl_image.specs.declared.sections.Sections.{Sections}
-use Rattle.nl_image.specs.declared.tables.Tables.{Tables}
+use Rattle.nl_image.specs.declared.tables.ImageTables.{ImageTables}
 use Rattle.nl_image.specs.Conditions.{FirstFails, HasPeriods, HasShapes, HasTrees, IsImage, IsOwn, IsShapeOf, MeetsUpTo, blocks_told}
 use Rattle.nl_image.specs.Parts.{Parts, blocks_in, cpfile_in, dat_in, image_length, padding_in, sufile_in}
 
@@ -76,7 +76,7 @@ abbrev pub parts_with : Sections → Segments → List CheckpointEntry → List 
 parts_with x segments kept table =
     record { shape = x.superblock; segments = segments; numbers = drop 1 table; kept = kept }
 
-abbrev pub parts_read : Sections → Tables → Parts
+abbrev pub parts_read : Sections → ImageTables → Parts
 parts_read x t = parts_with x t.segments t.kept t.numbers
 
 -- those up to that on numbers hold of these parts, and of no others
@@ -100,7 +100,7 @@ abbrev pub HaveOwn : List (Option DatEntry) → List (Option Payload) → Type 0
 HaveOwn table payload = (v : ℕ) (e : DatEntry) → entry_in table v ≡ Some e → IsOwn (held_in payload) v e
 
 -- the used blocks are read, which are whole logs, and each number's block is its own
-pub record HaveReadLogs (x : Sections) (t : Tables) (logs : Restored) : Type 0 where
+pub record HaveReadLogs (x : Sections) (t : ImageTables) (logs : Restored) : Type 0 where
   pub restored : IsRestored t.segments (pages_of_bytes x.blocks.now) logs
   pub own : HaveOwn t.numbers logs.payload
 

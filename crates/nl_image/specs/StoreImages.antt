@@ -1,7 +1,7 @@
 -- The image of a store of pages and the checkpoints that are kept over it.
 use Rattle.std.specs.Prelude.{◌≡◌, List, ℕ, length, All}
 use Rattle.std.specs.List.{AllZip}
-use Rattle.nl_types.specs.Roots.{Pages, pages_of}
+use Rattle.nl_types.specs.Blocks.Roots.{Pages, pages_of}
 use Rattle.nl_layout.specs.declared.checkpoint_entry.CheckpointEntry.{CheckpointEntry}
 use Rattle.nl_layout.specs.declared.superblock.Mark.TheVariants.{Second}
 use Rattle.nl_layout.specs.declared.superblock.Superblock.{Superblock}
@@ -15,7 +15,7 @@ use Rattle.nl_dat.specs.EntryBytes as numbers
 use Rattle.nl_dat.specs.Table.{numbers_shown}
 use Rattle.nl_cpfile.specs.declared.checkpoint.Checkpoint.{Checkpoint}
 use Rattle.nl_cpfile.specs.Images.{IsEntryOf}
-use Rattle.nl_check.specs.Trees.{IsSizeOf}
+use Rattle.nl_blocktree.specs.FileShapes.{IsSizeOf}
 use Rattle.nl_image.specs.Parts.{Parts, image_bytes}
 
 -- the entry of a kept checkpoint, with the size of its file of inodes

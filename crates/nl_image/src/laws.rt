@@ -1,9 +1,6 @@
 //! What the definitions of images mean, as contracts of functions that do nothing.
 ghost use Rattle.nl_image.specs.Laws.{ImagesAreSpelled, ImagesHaveNoFault, ImagesHaveOneParts, OneFailsFirst, PresentMarkStays, StoreImagesAreImages, StoreImagesTellPages, StoresHaveOneImage};
 
-use nl_dat::laws::bytes_spell_one_entry;
-use nl_layout::laws::bytes_spell_one_value;
-
 /// An image fails no condition first, and other bytes fail one first at most.
 pub fn one_condition_fails_first()
     ensures none { ImagesHaveNoFault }
@@ -19,8 +16,8 @@ pub fn images_are_spelled()
 pub fn images_have_one_list_of_parts()
     ensures { ImagesHaveOneParts }
 {
-    bytes_spell_one_value();
-    bytes_spell_one_entry();
+    nl_layout::laws::bytes_spell_one_value();
+    nl_dat::laws::bytes_spell_one_entry();
 }
 
 /// A store, and checkpoints kept over it, have one image, which tells the pages under the store's numbers.

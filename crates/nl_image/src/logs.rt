@@ -7,13 +7,13 @@ ghost use Rattle.nl_image.specs.Conditions.{HasLogs};
 ghost use Rattle.nl_image.specs.Reading.{AreNumbered, HaveReadLogs, HaveOwn, HaveTables, IsOwnEntry, IsRefusal, IsSectioned, parts_read};
 
 use crate::sections::Sections;
-use crate::tables::Tables;
+use crate::tables::ImageTables;
 use nl_check::ImageCondition;
 use nl_dat::DatEntry;
 use nl_segwriter::Restored;
 use nl_space::Payload;
 use nl_types::VolError;
-use nl_vstore::laws::summaries_are_one;
+use nl_vstore::laws;
 use std::alloc::Global;
 
 /// The logs of an image. Refused by `BadImage(7)` where the used part of a segment isn't whole logs, or the
@@ -21,7 +21,7 @@ use std::alloc::Global;
 pub(crate) fn read_logs(
     alloc: Global,
     sections: &Sections<'_>,
-    tables: &Tables,
+    tables: &ImageTables,
 ) -> Result<Restored, VolError>
     requires sectioned { IsSectioned sections.now }
     requires tables { HaveTables sections.now.image.now (parts_read sections.now tables.now) }
@@ -33,7 +33,7 @@ pub(crate) fn read_logs(
     ensures refused { IfErr result (IsRefusal sections.now.image.now) }
 {
     // So the logs hold one payload alone.
-    summaries_are_one();
+    laws::summaries_are_one();
     let logs = read_whole(alloc, sections, tables)?;
     if have_own(tables.numbers.as_slice(), logs.payload.as_slice()) {
         Ok(logs)
@@ -43,7 +43,11 @@ pub(crate) fn read_logs(
 }
 
 /// The used blocks of an image, which have to be whole logs.
-fn read_whole(alloc: Global, sections: &Sections<'_>, tables: &Tables) -> Result<Restored, VolError>
+fn read_whole(
+    alloc: Global,
+    sections: &Sections<'_>,
+    tables: &ImageTables,
+) -> Result<Restored, VolError>
     requires sectioned { IsSectioned sections.now }
     requires tables { HaveTables sections.now.image.now (parts_read sections.now tables.now) }
     ensures found { IfOk result (IsRestored tables.now.segments (pages_of_bytes sections.now.blocks.now)) }

@@ -1,13 +1,13 @@
 //! An image, read whole and judged by all conditions.
 ghost use Rattle.std.specs.Prelude.{◌≡◌, ◌↔◌, ◌*◌, IfErr, IfOk, IsTrue, OnOk, length, replicate};
-ghost use Rattle.nl_types.specs.Segments.{total_blocks};
+ghost use Rattle.nl_types.specs.Blocks.Segments.{total_blocks};
 ghost use Rattle.nl_image.specs.Conditions.{HasLogs, IsImage};
 ghost use Rattle.nl_image.specs.Reading.{AreNumbered, AreZero, CanBeRestored, HasCheckedTrees, HaveReadLogs, HaveTables, IsReadImage, IsRefusal, IsSectioned, parts_read};
 
 use crate::logs::read_logs;
 use crate::pages::ImagePages;
 use crate::sections::{Sections, sections_of};
-use crate::tables::{Tables, read_tables};
+use crate::tables::{ImageTables, read_tables};
 use nl_check::{ImageCondition, first_fault};
 use nl_dat::DatEntry;
 use nl_layout::CheckpointEntry;
@@ -38,7 +38,7 @@ pub fn read_image(alloc: Global, bytes: &[u8]) -> Result<ReadImage, VolError>
     let sections = sections_of(bytes)?;
     let tables = read_tables(alloc, &sections)?;
     let logs = read_checked(alloc, &sections, &tables)?;
-    let Tables {
+    let ImageTables {
         segments,
         kept,
         numbers,
@@ -56,7 +56,7 @@ pub fn read_image(alloc: Global, bytes: &[u8]) -> Result<ReadImage, VolError>
 fn read_checked(
     alloc: Global,
     sections: &Sections<'_>,
-    tables: &Tables,
+    tables: &ImageTables,
 ) -> Result<Restored, VolError>
     requires sectioned { IsSectioned sections.now }
     requires tables { HaveTables sections.now.image.now (parts_read sections.now tables.now) }
@@ -81,7 +81,7 @@ fn read_checked(
 fn check_trees(
     alloc: Global,
     sections: &Sections<'_>,
-    tables: &Tables,
+    tables: &ImageTables,
     logs: &Restored,
 ) -> Result<(), VolError>
     requires sectioned { IsSectioned sections.now }

@@ -13,7 +13,7 @@ use std::alloc::Global;
 
 /// What the tables of an image tell.
 #[derive(Drop)]
-pub(crate) struct Tables {
+pub(crate) struct ImageTables {
     pub(crate) segments: SegTable,
     pub(crate) kept: Items<CheckpointEntry>,
     /// By virtual number; 0 is never used.
@@ -21,7 +21,7 @@ pub(crate) struct Tables {
 }
 
 /// The tables of an image. Refused by `BadImage` 4 to 6 by the first condition that fails, and by `Memory`.
-pub(crate) fn read_tables(alloc: Global, sections: &Sections<'_>) -> Result<Tables, VolError>
+pub(crate) fn read_tables(alloc: Global, sections: &Sections<'_>) -> Result<ImageTables, VolError>
     requires { IsSectioned sections.now }
     ensures found { IfOk result (λ tables.
         HaveTables sections.now.image.now (parts_read sections.now tables)) }
@@ -32,7 +32,7 @@ pub(crate) fn read_tables(alloc: Global, sections: &Sections<'_>) -> Result<Tabl
     let segments = read_segments(alloc, sections)?;
     let kept = read_kept(alloc, sections, &segments)?;
     let numbers = read_all_numbers(alloc, sections, &segments, kept.as_slice())?;
-    Ok(Tables {
+    Ok(ImageTables {
         segments,
         kept,
         numbers,

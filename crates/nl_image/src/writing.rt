@@ -1,6 +1,6 @@
 //! The image of a store and of the checkpoints kept over it, written.
 ghost use Rattle.std.specs.Prelude.{◌≡◌, ◌<◌, ◌≤◌, ◌*◌, ◌+◌, ◌^◌, ◌++◌, All, IfErr, IfNone, IfOk, IfSome, IsErrOf, length, replicate};
-ghost use Rattle.nl_types.specs.Limits as limits;
+ghost use Rattle.nl_types.specs.Plain.Limits as limits;
 ghost use Rattle.nl_types.specs.declared.error.VolError;
 ghost use Rattle.nl_layout.specs.Superblock.{superblock_bytes};
 ghost use Rattle.nl_layout.specs.Superblock as superblocks;

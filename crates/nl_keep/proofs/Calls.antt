@@ -4,9 +4,9 @@ use Rattle.std.specs.Prelude.{None, Option, Some}
 use Rattle.nl_types.specs.declared.event.Change.{Change}
 use Rattle.nl_types.specs.declared.event.Event.TheVariants as event
 use Rattle.nl_types.specs.declared.reply.Answer.{Answer}
-use Rattle.nl_types.specs.Calls.{Changed, and_then, change}
-use Rattle.nl_types.specs.Trees.{Tree, IsTree}
-use Rattle.nl_types.specs.Worlds.{World, Copy, Outcome, Reply, greatest, numbers, step}
+use Rattle.nl_types.specs.Plain.Calls.{Changed, and_then, change}
+use Rattle.nl_types.specs.Plain.Trees.{Tree, IsTree}
+use Rattle.nl_types.specs.Plain.Worlds.{World, Copy, Outcome, Reply, greatest, numbers, step}
 use Rattle.nl_types.specs.Facts.EventCases.{after_change, either_gives}
 use Rattle.nl_folders.specs.Facts.CallLists.{after_both}
 use Rattle.nl_folders.specs.Plans.{AreWhereTheyDiffer, GoesOn, KeepMoved, KeepMovedBy, PlanKeepsWhatMoves, Progress, Reached, StaysMoved, begun, tree_after_all}

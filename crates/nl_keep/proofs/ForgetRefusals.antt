@@ -18,12 +18,12 @@ use Rattle.nl_types.specs.declared.reply.Answer.TheVariants as answer
 use Rattle.nl_types.specs.declared.row.ListOptions.{ListOptions}
 use Rattle.nl_types.specs.declared.row.Range.{Range}
 use Rattle.nl_types.specs.declared.row.Row.{Row}
-use Rattle.nl_types.specs.CheckpointLaws.{is_removable}
-use Rattle.nl_types.specs.Limits.{checkpoint_number_limit}
-use Rattle.nl_types.specs.NumberLists.{is_one_of}
-use Rattle.nl_types.specs.Rows.{is_between, is_no_range, is_snapshot, listing, number_of, range_removal, removal}
-use Rattle.nl_types.specs.Runs.{TakesMemory, Writes}
-use Rattle.nl_types.specs.Worlds.{World, Copy, IsWorld, Outcome, Reply, copies_with_mode, copy_at, copy_row, either, is_given_up, is_mounted, latest, moded, refused_if, rows, take_out}
+use Rattle.nl_types.specs.Plain.CheckpointLaws.{is_removable}
+use Rattle.nl_types.specs.Plain.Limits.{checkpoint_number_limit}
+use Rattle.nl_types.specs.Plain.NumberLists.{is_one_of}
+use Rattle.nl_types.specs.Plain.Rows.{is_between, is_no_range, is_snapshot, listing, number_of, range_removal, removal}
+use Rattle.nl_types.specs.Plain.Runs.{TakesMemory, Writes}
+use Rattle.nl_types.specs.Plain.Worlds.{World, Copy, IsWorld, Outcome, Reply, copies_with_mode, copy_at, copy_row, either, is_given_up, is_mounted, latest, moded, refused_if, rows, take_out}
 use Rattle.nl_types.specs.Facts.Booleans.{or_right}
 use Rattle.nl_types.specs.Facts.NumberedLists.{before-lt, tied-false}
 use Rattle.nl_types.specs.Facts.NumberedParts.{find-valued, found_le_top, tied-same, tied-true, top-valued}

@@ -16,10 +16,10 @@ use Rattle.nl_types.specs.declared.reply.Answer.TheVariants as answer
 use Rattle.nl_types.specs.declared.row.ListOptions.{ListOptions}
 use Rattle.nl_types.specs.declared.row.Range.{Range}
 use Rattle.nl_types.specs.declared.row.Row.{Row}
-use Rattle.nl_types.specs.CheckpointLaws.{is_removable}
-use Rattle.nl_types.specs.NumberLists.{is_one_of}
-use Rattle.nl_types.specs.Rows.{is_shown, kept_row, listing, range_removal, removable, rows_between}
-use Rattle.nl_types.specs.Worlds.{World, Copy, Outcome, Reply, copy_at, copy_row, copies_with_mode, is_given_up, is_mounted, latest, moded, rows, step, take_out}
+use Rattle.nl_types.specs.Plain.CheckpointLaws.{is_removable}
+use Rattle.nl_types.specs.Plain.NumberLists.{is_one_of}
+use Rattle.nl_types.specs.Plain.Rows.{is_shown, kept_row, listing, range_removal, removable, rows_between}
+use Rattle.nl_types.specs.Plain.Worlds.{World, Copy, Outcome, Reply, copy_at, copy_row, copies_with_mode, is_given_up, is_mounted, latest, moded, rows, step, take_out}
 use Rattle.nl_types.specs.Facts.EventCases.{either_gives, refused_if_gives}
 use Rattle.nl_types.specs.Facts.Booleans.{not_true}
 use Rattle.nl_types.specs.Facts.NumberedLists.{before-lt}

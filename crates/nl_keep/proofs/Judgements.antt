@@ -12,10 +12,10 @@ use Rattle.std.proofs.lemmas.Bool.{and_from, and_parts}
 use Rattle.std.proofs.lemmas.Option.{same_Some}
 use Rattle.nl_types.specs.declared.reply.Node.{Node}
 use Rattle.nl_types.specs.declared.reply.Node.TheVariants.{Dir, File}
-use Rattle.nl_types.specs.Calls.{is_dir}
-use Rattle.nl_types.specs.Limits.{file_limit, path_length_limit}
-use Rattle.nl_types.specs.Paths.{Name, Path, is_name, is_within, name_cmp, path_cmp, same_name, same_path}
-use Rattle.nl_types.specs.Trees.{Tree, lookup}
+use Rattle.nl_types.specs.Plain.Calls.{is_dir}
+use Rattle.nl_types.specs.Plain.Limits.{file_limit, path_length_limit}
+use Rattle.nl_types.specs.Plain.Paths.{Name, Path, is_name, is_within, name_cmp, path_cmp, same_name, same_path}
+use Rattle.nl_types.specs.Plain.Trees.{Tree, lookup}
 use Rattle.nl_types.specs.Facts.Lookups.{is_within-append, same_name-equal, same_name-itself}
 use Rattle.nl_types.specs.Facts.TreeLaws.{path_total, same_path-equal}
 use Rattle.nl_folders.specs.Spelled.{IsNameable, joined, spelling}

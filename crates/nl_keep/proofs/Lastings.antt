@@ -4,10 +4,10 @@ use Rattle.std.specs.Prelude.{nat_le}
 use Rattle.nl_types.specs.declared.error.VolError.TheVariants as error
 use Rattle.nl_types.specs.declared.event.Event.{Event}
 use Rattle.nl_types.specs.declared.event.Event.TheVariants as event
-use Rattle.nl_types.specs.Laws.{CopiesAreKept, CopiesStay, TakesOut}
-use Rattle.nl_types.specs.Limits.{checkpoint_number_limit}
-use Rattle.nl_types.specs.Trees.{Tree}
-use Rattle.nl_types.specs.Worlds.{World, Copy, Outcome, Reply, copy_at, is_moving, latest, minor_copies, refused_if, step, with_minor}
+use Rattle.nl_types.specs.Plain.Laws.{CopiesAreKept, CopiesStay, TakesOut}
+use Rattle.nl_types.specs.Plain.Limits.{checkpoint_number_limit}
+use Rattle.nl_types.specs.Plain.Trees.{Tree}
+use Rattle.nl_types.specs.Plain.Worlds.{World, Copy, Outcome, Reply, copy_at, is_moving, latest, minor_copies, refused_if, step, with_minor}
 use Rattle.nl_types.specs.Facts.EventCases.{refused_if_gives}
 use Rattle.nl_types.specs.Facts.NumberedLists.{find_stays}
 use Rattle.nl_keep.specs.Facts.StoredTrees.{one_tree, stored_tree}

@@ -12,10 +12,10 @@ use Rattle.std.specs.FinMap.Entries.{below_all}
 use Rattle.nl_types.specs.declared.event.Event.TheVariants as event
 use Rattle.nl_types.specs.declared.reply.Answer.{Answer}
 use Rattle.nl_types.specs.declared.row.Row.{Row}
-use Rattle.nl_types.specs.Limits.{checkpoint_number_limit}
-use Rattle.nl_types.specs.NumberLists.{is_one_of}
-use Rattle.nl_types.specs.Rows.{is_snapshot, number_of, removal}
-use Rattle.nl_types.specs.Worlds.{World, Copy, IsWorld, Outcome, Reply, copies_without, copy_at, copy_row, latest, rows, step, take_out}
+use Rattle.nl_types.specs.Plain.Limits.{checkpoint_number_limit}
+use Rattle.nl_types.specs.Plain.NumberLists.{is_one_of}
+use Rattle.nl_types.specs.Plain.Rows.{is_snapshot, number_of, removal}
+use Rattle.nl_types.specs.Plain.Worlds.{World, Copy, IsWorld, Outcome, Reply, copies_without, copy_at, copy_row, latest, rows, step, take_out}
 use Rattle.nl_types.specs.Facts.EventCases.{either_gives}
 use Rattle.nl_types.specs.Facts.Booleans.{not_true}
 use Rattle.nl_types.specs.Facts.NumberedLists.{tied-false}

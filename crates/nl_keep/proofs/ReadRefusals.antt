@@ -12,12 +12,12 @@ use Rattle.nl_types.specs.declared.event.Event.TheVariants as event
 use Rattle.nl_types.specs.declared.reply.Answer.TheVariants as answer
 use Rattle.nl_types.specs.declared.reply.Named.{Named}
 use Rattle.nl_types.specs.declared.reply.Node.TheVariants.{Dir, File}
-use Rattle.nl_types.specs.Paths.{Path, is_name}
-use Rattle.nl_types.specs.Trees.{Tree, IsTree, children, lookup}
-use Rattle.nl_types.specs.Calls.{and_then, dir_at, file_at, list, named, read, reply_to}
+use Rattle.nl_types.specs.Plain.Paths.{Path, is_name}
+use Rattle.nl_types.specs.Plain.Trees.{Tree, IsTree, children, lookup}
+use Rattle.nl_types.specs.Plain.Calls.{and_then, dir_at, file_at, list, named, read, reply_to}
 use Rattle.nl_types.specs.Facts.Judgements.{dir_at_is, file_at_is}
-use Rattle.nl_types.specs.Runs.{Writes}
-use Rattle.nl_types.specs.Worlds.{Copy, Outcome, Reply}
+use Rattle.nl_types.specs.Plain.Runs.{Writes}
+use Rattle.nl_types.specs.Plain.Worlds.{Copy, Outcome, Reply}
 use Rattle.nl_folders.specs.declared.folder.FolderError.{FolderError}
 use Rattle.nl_folders.specs.declared.folder.FolderError.TheVariants.{Refused}
 use Rattle.nl_folders.specs.Refusals.{RefusesPath}
@@ -117,20 +117,20 @@ names_refused path tree names reply e in_names listed (inl is) other refused =
       | inr long ↦ inr (refused error.BadPath (is ∙ ap given long.0), long.1)
     ]
 
-pub bytes_refused : (path : Path) (tree : Tree) (bytes : List ℕ) (reply : Reply) (e : FolderError)
+pub bytes_refused : (path : Path) (len : ℕ) (tree : Tree) (bytes : List ℕ) (reply : Reply) (e : FolderError)
     → list_all is_name path ≡ true → file_at tree path ≡ Ok bytes
-    → Replies tree (ask.Bytes (spelling path) 0 18446744073709551615) reply
+    → Replies tree (ask.Bytes (spelling path) 0 len) reply
     → ((found : List ℕ) → reply ≡ Ok (answer.Bytes found) → ⊥)
     → ((x : VolError) → reply ≡ Err x → e ≡ Refused x) → RefusesPath path e
-bytes_refused path tree bytes reply e in_names found (inr memory) other refused =
+bytes_refused path len tree bytes reply e in_names found (inr memory) other refused =
     inl (refused error.Memory memory)
-bytes_refused path tree bytes reply e in_names found (inl is) other refused =
-    let given : Result Path VolError → Reply = λ r. and_then r (read tree 0 18446744073709551615) in
+bytes_refused path len tree bytes reply e in_names found (inl is) other refused =
+    let given : Result Path VolError → Reply = λ r. and_then r (read tree 0 len) in
     elim (named_or_long path in_names) [
       | inl spelled ↦
-          absurd (other (take 18446744073709551615 (drop 0 bytes))
+          absurd (other (take len (drop 0 bytes))
           (is ∙ ap given spelled
           ∙ ap (λ (r : Result (List ℕ) VolError).
-          and_then r (λ b. Ok (answer.Bytes (take 18446744073709551615 (drop 0 b))))) found))
+          and_then r (λ b. Ok (answer.Bytes (take len (drop 0 b))))) found))
       | inr long ↦ inr (refused error.BadPath (is ∙ ap given long.0), long.1)
     ]

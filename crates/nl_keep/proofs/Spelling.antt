@@ -4,8 +4,8 @@ use Rattle.std.specs.Prelude.{nat_lt}
 use Rattle.std.specs.List.{list_all}
 use Rattle.nl_types.specs.declared.error.VolError.{VolError}
 use Rattle.nl_types.specs.declared.error.VolError.TheVariants as error
-use Rattle.nl_types.specs.Limits.{path_length_limit}
-use Rattle.nl_types.specs.Paths.{Path, is_name, names_of, path_of}
+use Rattle.nl_types.specs.Plain.Limits.{path_length_limit}
+use Rattle.nl_types.specs.Plain.Paths.{Path, is_name, names_of, path_of}
 use Rattle.nl_folders.specs.Facts.Spellings.{path_of-spelling}
 use Rattle.nl_folders.specs.Refusals.{IsTooLong}
 use Rattle.nl_folders.specs.Spelled.{joined, spelling}

@@ -5,9 +5,9 @@ use Rattle.nl_types.specs.declared.error.VolError.TheVariants as error
 use Rattle.nl_types.specs.declared.event.Event.TheVariants as event
 use Rattle.nl_types.specs.declared.event.Mode.TheVariants.{Snapshot}
 use Rattle.nl_types.specs.declared.reply.Answer.TheVariants as answer
-use Rattle.nl_types.specs.Limits.{checkpoint_number_limit}
-use Rattle.nl_types.specs.Trees.{Tree, IsTree}
-use Rattle.nl_types.specs.Worlds.{World, Copy, IsWorld, Outcome, copy_at, Reply, greatest, greatest_stamp, latest, numbers, step}
+use Rattle.nl_types.specs.Plain.Limits.{checkpoint_number_limit}
+use Rattle.nl_types.specs.Plain.Trees.{Tree, IsTree}
+use Rattle.nl_types.specs.Plain.Worlds.{World, Copy, IsWorld, Outcome, copy_at, Reply, greatest, greatest_stamp, latest, numbers, step}
 use Rattle.nl_types.specs.Facts.EventCases.{refused_if_gives}
 use Rattle.nl_folders.specs.declared.folder.FolderError.{FolderError}
 use Rattle.nl_folders.specs.declared.folder.FolderError.TheVariants.{Refused}

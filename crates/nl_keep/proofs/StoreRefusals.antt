@@ -19,12 +19,12 @@ use Rattle.nl_types.specs.declared.reply.Answer.{Answer}
 use Rattle.nl_types.specs.declared.reply.Answer.TheVariants as answer
 use Rattle.nl_types.specs.declared.reply.Node.{Node}
 use Rattle.nl_types.specs.declared.reply.Node.TheVariants.{Dir, File}
-use Rattle.nl_types.specs.Limits.{checkpoint_number_limit, file_limit, path_length_limit}
-use Rattle.nl_types.specs.Paths.{Name, Path, name_cmp, path_cmp, same_name, same_path}
-use Rattle.nl_types.specs.Trees.{Tree, IsTree, IsIn, lookup}
-use Rattle.nl_types.specs.Calls.{Changed, and_then, change, is_dir}
-use Rattle.nl_types.specs.Runs.{IsRefused, Writes}
-use Rattle.nl_types.specs.Worlds.{World, Copy, Outcome, Reply, either, greatest, latest, numbers, refused_if}
+use Rattle.nl_types.specs.Plain.Limits.{checkpoint_number_limit, file_limit, path_length_limit}
+use Rattle.nl_types.specs.Plain.Paths.{Name, Path, name_cmp, path_cmp, same_name, same_path}
+use Rattle.nl_types.specs.Plain.Trees.{Tree, IsTree, IsIn, lookup}
+use Rattle.nl_types.specs.Plain.Calls.{Changed, and_then, change, is_dir}
+use Rattle.nl_types.specs.Plain.Runs.{IsRefused, Writes}
+use Rattle.nl_types.specs.Plain.Worlds.{World, Copy, Outcome, Reply, either, greatest, latest, numbers, refused_if}
 use Rattle.nl_types.specs.Facts.Booleans.{not_true}
 use Rattle.nl_types.specs.Facts.EventCases.{after_change, after_checkpoint, new_copy}
 use Rattle.nl_types.specs.Facts.Lookups.{names_equal, same_path-itself}

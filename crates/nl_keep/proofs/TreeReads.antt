@@ -14,12 +14,12 @@ use Rattle.nl_types.specs.declared.reply.Answer.TheVariants as answer
 use Rattle.nl_types.specs.declared.reply.Named.{Named}
 use Rattle.nl_types.specs.declared.reply.Node.{Node}
 use Rattle.nl_types.specs.declared.reply.Node.TheVariants.{Dir, File}
-use Rattle.nl_types.specs.Characters.{slash}
-use Rattle.nl_types.specs.Paths.{Path, is_name, path_of}
-use Rattle.nl_types.specs.Trees.{Tree, IsTree, lookup}
-use Rattle.nl_types.specs.Calls.{IsReadReply, and_then, file_at, list, read, reply_to, stat_of}
+use Rattle.nl_types.specs.Plain.Characters.{slash}
+use Rattle.nl_types.specs.Plain.Paths.{Path, is_name, path_of}
+use Rattle.nl_types.specs.Plain.Trees.{Tree, IsTree, lookup}
+use Rattle.nl_types.specs.Plain.Calls.{IsReadReply, and_then, file_at, list, read, reply_to, stat_of}
 use Rattle.nl_types.specs.Facts.Judgements.{file_at_is}
-use Rattle.nl_types.specs.Worlds.{World, Copy, IsWorld, Outcome, Reply, copy_at}
+use Rattle.nl_types.specs.Plain.Worlds.{World, Copy, IsWorld, Outcome, Reply, copy_at}
 use Rattle.nl_folders.specs.Spelled.{spelling}
 use Rattle.nl_keep.specs.Shown.{ShowsCurrent, ShowsKept}
 use Rattle.nl_keep.specs.Volumes.{Follows, LeadsTo, Meaning, reply_at}
@@ -64,6 +64,26 @@ read_by path bytes tree t named = by_path (path_of (spelling path)) (parsed path
         ap (file_at tree) (sym (spells p named refl)) ∙ by_file p (file_at tree p) (file_at_is tree p) found
     by_path (Err e) spells found = cc
 
+-- a file stands where bytes of one are answered
+stands_by : (path : Path) (len : ℕ) (bytes : List ℕ) (tree : Tree) → list_all is_name path ≡ true
+    → reply_to tree (ask.Bytes (spelling path) 0 len) ≡ Ok (answer.Bytes bytes)
+    → (found : List ℕ) × (file_at tree path ≡ Ok found)
+stands_by path len bytes tree named = by_path (path_of (spelling path)) (parsed path)
+  where
+    by_file : (r : Result (List ℕ) VolError)
+        → and_then r (λ b. Ok (answer.Bytes (take len (drop 0 b)))) ≡ Ok (answer.Bytes bytes)
+        → (found : List ℕ) × (r ≡ Ok found)
+    by_file (Ok b) found = (b, refl)
+    by_file (Err e) found = cc
+
+    by_path : (r : Result Path VolError) → ((p : Path) → list_all is_name path ≡ true → r ≡ Ok p → p ≡ path)
+        → and_then r (read tree 0 len) ≡ Ok (answer.Bytes bytes)
+        → (found : List ℕ) × (file_at tree path ≡ Ok found)
+    by_path (Ok p) spells found =
+        let file = by_file (file_at tree p) found in
+        (file.0, ap (file_at tree) (sym (spells p named refl)) ∙ file.1)
+    by_path (Err e) spells found = cc
+
 -- ---- of a checkpoint
 
 -- what `read_at` ensures
@@ -105,6 +125,14 @@ read_whole n path a reply bytes Means named asked reads is tree shown =
     read_by path bytes tree shown.is_tree named
     (told n a (ask.Bytes (spelling path) 0 18446744073709551615) reply (answer.Bytes bytes) tree Means asked reads
     is shown)
+
+pub file_stands : (n : ℕ) (path : Path) (len : ℕ) (a : Ask) (reply : Reply) (bytes : List ℕ) (Means : Meaning)
+    → list_all is_name path ≡ true → a ≡ ask.Bytes (spelling path) 0 len
+    → ReadsAt n a reply Means → reply ≡ Ok (answer.Bytes bytes)
+    → (tree : Tree) → ShowsKept Means n tree → (found : List ℕ) × (file_at tree path ≡ Ok found)
+file_stands n path len a reply bytes Means named asked reads is tree shown =
+    stands_by path len bytes tree named
+    (told n a (ask.Bytes (spelling path) 0 len) reply (answer.Bytes bytes) tree Means asked reads is shown)
 
 -- ---- of the current tree
 

@@ -3,8 +3,8 @@ use Rattle.std.specs.Prelude.{◌≡◌, ℕ, if◌then◌else◌, nat_le, nat_l
 use Rattle.std.specs.List.{filter}
 use Rattle.nl_types.specs.declared.event.Mode.TheVariants.{Plain}
 use Rattle.nl_types.specs.declared.row.Row.{Row}
-use Rattle.nl_types.specs.Rows.{removable, rows_between}
-use Rattle.nl_types.specs.Worlds.{World, copies_with_mode, copy_at, latest, rows, take_out}
+use Rattle.nl_types.specs.Plain.Rows.{removable, rows_between}
+use Rattle.nl_types.specs.Plain.Worlds.{World, copies_with_mode, copy_at, latest, rows, take_out}
 use Rattle.nl_keep.specs.Stored.{IsKept}
 
 -- ---- runs

@@ -4,11 +4,11 @@ use Rattle.std.specs.FinMap.{is_sorted}
 use Rattle.std.specs.Ordering.{nat_cmp}
 use Rattle.nl_types.specs.declared.event.Event.{Event}
 use Rattle.nl_types.specs.declared.event.Event.TheVariants.{Move, Resize, Retire}
-use Rattle.nl_types.specs.Laws.{TakesOut}
-use Rattle.nl_types.specs.NumberLists.{is_one_of}
-use Rattle.nl_types.specs.Runs.{Run}
-use Rattle.nl_types.specs.Trees.{Tree}
-use Rattle.nl_types.specs.Worlds.{World, Copy, Reply, copy_at}
+use Rattle.nl_types.specs.Plain.Laws.{TakesOut}
+use Rattle.nl_types.specs.Plain.NumberLists.{is_one_of}
+use Rattle.nl_types.specs.Plain.Runs.{Run}
+use Rattle.nl_types.specs.Plain.Trees.{Tree}
+use Rattle.nl_types.specs.Plain.Worlds.{World, Copy, Reply, copy_at}
 use Rattle.nl_keep.specs.Forgotten.{Forgets}
 use Rattle.nl_keep.specs.MinorOnes.{RemovesMinor}
 use Rattle.nl_keep.specs.Stored.{KeepsTree, StoresTree}

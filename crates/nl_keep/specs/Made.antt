@@ -2,10 +2,10 @@
 use Rattle.std.specs.Prelude.{◌≡◌, ℕ, ◌+◌, min, List, [], ◌∷◌, length, Ok}
 use Rattle.nl_types.specs.declared.event.Change.{Change}
 use Rattle.nl_types.specs.declared.event.Change.TheVariants.{Write}
-use Rattle.nl_types.specs.Calls.{change}
+use Rattle.nl_types.specs.Plain.Calls.{change}
 use Rattle.nl_types.specs.declared.reply.Answer.{Answer}
-use Rattle.nl_types.specs.Trees.{Tree}
-use Rattle.nl_types.specs.Worlds.{World}
+use Rattle.nl_types.specs.Plain.Trees.{Tree}
+use Rattle.nl_types.specs.Plain.Worlds.{World}
 use Rattle.nl_folders.specs.Plans.{AreWhereTheyDiffer, PlanKeepsWhatMoves, tree_after_all}
 use Rattle.nl_keep.specs.Stored.{ChangesTreeAlone}
 

@@ -2,8 +2,8 @@
 use Rattle.std.specs.Prelude.{◌≡◌, ◌-◌, ◌&&◌, Bool, not, List, length, map, take, ℕ}
 use Rattle.std.specs.List.{filter}
 use Rattle.nl_types.specs.declared.row.Row.{Row}
-use Rattle.nl_types.specs.Rows.{is_snapshot, number_of}
-use Rattle.nl_types.specs.Worlds.{World, rows, take_out}
+use Rattle.nl_types.specs.Plain.Rows.{is_snapshot, number_of}
+use Rattle.nl_types.specs.Plain.Worlds.{World, rows, take_out}
 
 -- nobody made a snapshot of it either
 abbrev pub is_plain_minor : Row → Bool

@@ -5,10 +5,10 @@ use Rattle.nl_types.specs.declared.error.VolError.{VolError}
 use Rattle.nl_types.specs.declared.error.VolError.TheVariants.{BadName, BadPath, Fault, Latest, Memory, Mounted, NoCheckpoint, NoSpace, NumbersSpent, TooBig}
 use Rattle.nl_types.specs.declared.reply.Node.{Node}
 use Rattle.nl_types.specs.declared.reply.Node.TheVariants.{File}
-use Rattle.nl_types.specs.Limits.{checkpoint_number_limit, file_limit, path_limit}
-use Rattle.nl_types.specs.Paths.{Path, is_name}
-use Rattle.nl_types.specs.Trees.{Tree, IsTree}
-use Rattle.nl_types.specs.Worlds.{World, copy_at, is_mounted, latest}
+use Rattle.nl_types.specs.Plain.Limits.{checkpoint_number_limit, file_limit, path_limit}
+use Rattle.nl_types.specs.Plain.Paths.{Path, is_name}
+use Rattle.nl_types.specs.Plain.Trees.{Tree, IsTree}
+use Rattle.nl_types.specs.Plain.Worlds.{World, copy_at, is_mounted, latest}
 use Rattle.nl_folders.specs.declared.folder.FolderError.{FolderError}
 use Rattle.nl_folders.specs.declared.folder.FolderError.TheVariants as folder
 use Rattle.nl_folders.specs.Refusals.{IsTooLong}

@@ -1,7 +1,7 @@
 -- What the current tree and a checkpoint of a volume show.
 use Rattle.std.specs.Prelude.{◌≡◌, ℕ, Some}
-use Rattle.nl_types.specs.Trees.{Tree, IsTree}
-use Rattle.nl_types.specs.Worlds.{World, Copy, copy_at}
+use Rattle.nl_types.specs.Plain.Trees.{Tree, IsTree}
+use Rattle.nl_types.specs.Plain.Worlds.{World, Copy, copy_at}
 use Rattle.nl_keep.specs.Volumes.{Meaning}
 
 -- the current tree of a world that is meant is this one

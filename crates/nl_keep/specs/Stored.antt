@@ -1,8 +1,8 @@
 -- What storing a tree does to a world, and what a checkpoint keeps.
 use Rattle.std.specs.Prelude.{◌≡◌, ℕ, ◌+◌, max, false, [], ◌∷◌, ◌++◌, Some}
 use Rattle.nl_types.specs.declared.event.Mode.TheVariants.{Snapshot}
-use Rattle.nl_types.specs.Trees.{Tree}
-use Rattle.nl_types.specs.Worlds.{World, Copy, copy_at, latest, latest_stamp}
+use Rattle.nl_types.specs.Plain.Trees.{Tree}
+use Rattle.nl_types.specs.Plain.Worlds.{World, Copy, copy_at, latest, latest_stamp}
 
 -- checkpoint n is kept
 abbrev pub IsKept : ℕ → World → Type 0

@@ -2,9 +2,9 @@
 use Rattle.std.specs.Prelude.{◌≡◌, ℕ}
 use Rattle.nl_types.specs.declared.event.Ask.{Ask}
 use Rattle.nl_types.specs.declared.event.Event.{Event}
-use Rattle.nl_types.specs.Calls.{and_then, reply_to}
-use Rattle.nl_types.specs.Runs.{AllowedRefusals, Step, unshared_refusals}
-use Rattle.nl_types.specs.Worlds.{World, Reply, kept_copy}
+use Rattle.nl_types.specs.Plain.Calls.{and_then, reply_to}
+use Rattle.nl_types.specs.Plain.Runs.{AllowedRefusals, Step, unshared_refusals}
+use Rattle.nl_types.specs.Plain.Worlds.{World, Reply, kept_copy}
 
 -- which worlds a volume means
 abbrev pub Meaning : Type 1

@@ -1,7 +1,7 @@
 //! What a volume is asked to read whole trees, and its answers.
 ghost use Rattle.std.specs.Prelude.{◌≡◌, ℕ, List, Err, IfErr, IfOk, IsOk, Ok, OnErr, true};
 ghost use Rattle.std.specs.List.{list_all};
-ghost use Rattle.nl_types.specs.Paths.{is_name};
+ghost use Rattle.nl_types.specs.Plain.Paths.{is_name};
 ghost use Rattle.nl_types.specs.declared.reply.Answer.TheVariants as answer;
 ghost use Rattle.nl_types.specs.declared.event.Ask.TheVariants as ask;
 ghost use Rattle.nl_types.specs.declared.error.VolError.{VolError};
@@ -78,10 +78,9 @@ pub(crate) fn listing_of(alloc: Global, path: &[Name]) -> Result<Ask, FolderErro
     Ok(Ask::List { path })
 }
 
-/// The question for all bytes of a file.
-pub(crate) fn whole_file(alloc: Global, path: &[Name]) -> Result<Ask, FolderError>
-    ensures asked { IfOk result (λ asked.
-        asked ≡ ask.Bytes (spelling path.now) 0 18446744073709551615) }
+/// The question for the first bytes of a file, which tells too that one stands there.
+pub(crate) fn first_bytes(alloc: Global, path: &[Name], len: u64) -> Result<Ask, FolderError>
+    ensures asked { IfOk result (λ asked. asked ≡ ask.Bytes (spelling path.now) 0 len) }
     ensures names { IsOk result → list_all is_name path.now ≡ true }
     ensures refused { IfErr result (RefusesQuestion path.now) }
 {
@@ -89,6 +88,16 @@ pub(crate) fn whole_file(alloc: Global, path: &[Name]) -> Result<Ask, FolderErro
     Ok(Ask::Bytes {
         path,
         offset: 0,
-        len: u64::MAX,
+        len,
     })
+}
+
+/// The question for all bytes of a file.
+pub(crate) fn whole_file(alloc: Global, path: &[Name]) -> Result<Ask, FolderError>
+    ensures asked { IfOk result (λ asked.
+        asked ≡ ask.Bytes (spelling path.now) 0 18446744073709551615) }
+    ensures names { IsOk result → list_all is_name path.now ≡ true }
+    ensures refused { IfErr result (RefusesQuestion path.now) }
+{
+    first_bytes(alloc, path, u64::MAX)
 }

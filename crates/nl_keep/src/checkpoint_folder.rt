@@ -1,5 +1,11 @@
 //! The trees of a volume's checkpoints as folders.
-use crate::asking::{bytes_of, listing_of, names_of, whole_file};
+ghost use Rattle.std.specs.Prelude.{◌≡◌, ℕ, List, IfErr, Ok, OnOk};
+ghost use Rattle.nl_types.specs.Plain.Calls.{file_at};
+ghost use Rattle.nl_types.specs.Plain.Trees.{Tree};
+ghost use Rattle.nl_folders.specs.Refusals.{RefusesPath};
+ghost use Rattle.nl_keep.specs.Shown.{ShowsKept};
+
+use crate::asking::{bytes_of, first_bytes, listing_of, names_of, whole_file};
 use crate::volume::Volume;
 use nl_folders::{Folder, FolderError, Name};
 use nl_types::{CheckpointNumber, Items, Named};
@@ -11,6 +17,25 @@ use std::alloc::Global;
 pub struct CheckpointFolder<'a, V: Volume> {
     pub volume: &'a V,
     pub number: CheckpointNumber,
+}
+
+impl<V: Volume> CheckpointFolder<'_, V> {
+    /// Judges whether a file stands at a path. None of its bytes is read.
+    ///
+    /// # Errors
+    /// As reading it.
+    pub fn judge_file(&self, alloc: Global, path: &[Name]) -> Result<(), FolderError>
+        ensures file { OnOk result ((tree : Tree)
+            → ShowsKept (V.means self.now.volume.now) self.now.number tree
+            → (bytes : List ℕ) × (file_at tree path.now ≡ Ok bytes)) }
+        ensures refused { IfErr result (λ e. (tree : Tree) (bytes : List ℕ)
+            → ShowsKept (V.means self.now.volume.now) self.now.number tree
+            → file_at tree path.now ≡ Ok bytes → RefusesPath path.now e) }
+    {
+        let ask = first_bytes(alloc, path, 0)?;
+        bytes_of(self.volume.read_at(self.number, &ask))?;
+        Ok(())
+    }
 }
 
 impl<V: Volume> Folder for CheckpointFolder<'_, V> {

@@ -1,7 +1,7 @@
 //! Checkpoints that are forgotten.
 ghost use Rattle.std.specs.Prelude.{◌≡◌, ◌&&◌, if◌then◌else◌, nat_lt, not, true, false, IfErr, IfOk, OnErr, OnOk};
-ghost use Rattle.nl_types.specs.NumberLists.{is_one_of};
-ghost use Rattle.nl_types.specs.Worlds.{World};
+ghost use Rattle.nl_types.specs.Plain.NumberLists.{is_one_of};
+ghost use Rattle.nl_types.specs.Plain.Worlds.{World};
 ghost use Rattle.nl_keep.specs.Forgotten.{Forgets, ForgetsOne, MakesPlain, TakesRange, TellsFrom, run_end};
 ghost use Rattle.nl_keep.specs.Private.Refused.{RefusesRange};
 ghost use Rattle.nl_keep.specs.Refusals.{RefusesToForget, RefusesToForgetAll};

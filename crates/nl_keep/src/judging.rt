@@ -2,8 +2,8 @@
 ghost use Rattle.std.specs.Prelude.{◌≡◌, ◌≤◌, length, true, IfErr, OnOk};
 ghost use Rattle.std.specs.List.{list_all};
 ghost use Rattle.std.specs.Ordering.{is_lt};
-ghost use Rattle.nl_types.specs.Calls.{is_dir};
-ghost use Rattle.nl_types.specs.Paths.{name_cmp, same_name};
+ghost use Rattle.nl_types.specs.Plain.Calls.{is_dir};
+ghost use Rattle.nl_types.specs.Plain.Paths.{name_cmp, same_name};
 ghost use Rattle.nl_folders.specs.Spelled.{IsNameable};
 ghost use Rattle.nl_keep.specs.Refusals.{RefusesEntries, RefusesEntry};
 ghost use Rattle.nl_keep.specs.Private.Judged.{all_follow, follows, is_entry, is_rooted, is_small, is_spelled};
@@ -11,16 +11,11 @@ ghost use Rattle.nl_keep.specs.Private.Judged.{all_follow, follows, is_entry, is
 use crate::asking::are_names;
 use crate::storing::KeepError;
 use nl_folders::{Name, Path};
+use nl_types::limits::{FILE_LIMIT, PATH_LENGTH_LIMIT, PATH_LIMIT};
 use nl_types::{Node, VolError};
 
-/// The most bytes of a path, with a slash before each name.
-const PATH_LIMIT: usize = 4095;
-
-/// The most bytes of a file.
-const FILE_LIMIT: usize = 67_108_864;
-
 /// The most paths of a tree, the root's included.
-const MOST_PATHS: usize = 524_278;
+const MOST_PATHS: usize = PATH_LIMIT + 1;
 
 // ---- an entry
 
@@ -42,7 +37,7 @@ fn is_small(node: &Node) -> bool
 {
     match node {
         Node::Dir => true,
-        Node::File(bytes) => bytes.len() <= FILE_LIMIT,
+        Node::File(bytes) => bytes.len() <= FILE_LIMIT as usize,
     }
 }
 
@@ -56,7 +51,7 @@ fn judge_entry(entry: &(Path, Node)) -> Result<(), VolError>
     if !are_names(path) {
         return Err(VolError::BadName);
     }
-    if !is_spelled(path, PATH_LIMIT) {
+    if !is_spelled(path, PATH_LENGTH_LIMIT) {
         return Err(VolError::BadPath);
     }
     if !is_small(&entry.1) {

@@ -1,7 +1,7 @@
 //! What storing, reading and forgetting come to, as contracts of functions that do nothing.
 ghost use Rattle.nl_keep.specs.Lasting.{BlockEventsKeepAll, ForgetsChangeCopiesAlone, ForgetsKeepOthers, ForgottenAreGone, KeptTreesLast, MinorRemovalsKeepOwn, StoredTreesComeBack, StoresKeepCopies};
 
-use nl_types::laws::copies_stay;
+use nl_types::laws;
 
 /// A checkpoint that no event takes out is kept with its tree. So what is read of a checkpoint is the tree
 /// that was stored as it, whatever came between.
@@ -9,7 +9,7 @@ pub fn stored_trees_come_back()
     ensures last { KeptTreesLast }
     ensures back { StoredTreesComeBack }
 {
-    copies_stay();
+    laws::copies_stay();
 }
 
 /// A store keeps each checkpoint as it was.

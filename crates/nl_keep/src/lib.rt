@@ -17,5 +17,5 @@ pub use checkpoint_folder::CheckpointFolder;
 pub use forgetting::forget;
 pub use storing::{KeepError, Stored, store, store_over};
 pub use tidying::remove_minor;
-pub use trees::{checkpoint_tree, current_tree};
+pub use trees::{checkpoint_tree, current_tree, judge_kept};
 pub use volume::Volume;

@@ -3,7 +3,7 @@ ghost use Rattle.std.specs.Prelude.{◌≡◌, [], ◌∷◌, IfErr, IfOk, OnOk}
 ghost use Rattle.nl_folders.specs.Spelled.{IsNameable};
 ghost use Rattle.nl_keep.specs.Made.{DoesCall, DoesCalls, bytes_of};
 ghost use Rattle.nl_keep.specs.Private.Costs.{IsMade, cost_of, with_more};
-ghost use Rattle.nl_types.specs.Worlds.{World};
+ghost use Rattle.nl_types.specs.Plain.Worlds.{World};
 ghost use Rattle.nl_keep.specs.Private.Refused.{RefusesCalls};
 ghost use Rattle.nl_keep.specs.Volumes.{LeadsTo};
 

@@ -1,6 +1,6 @@
 //! A tree stored as the next snapshot of a volume.
 ghost use Rattle.std.specs.Prelude.{◌≡◌, IfErr, IfOk};
-ghost use Rattle.nl_types.specs.Worlds.{World, latest};
+ghost use Rattle.nl_types.specs.Plain.Worlds.{World, latest};
 ghost use Rattle.nl_keep.specs.Made.{AreMadeBy};
 ghost use Rattle.nl_keep.specs.Refusals.{RefusesSnapshot, RefusesStore};
 ghost use Rattle.nl_keep.specs.Stored.{StoresOver, StoresTree, TakesSnapshot};

@@ -1,6 +1,6 @@
 //! Checkpoints that the volume made by itself, taken out.
 ghost use Rattle.std.specs.Prelude.{◌≡◌, [], ◌∷◌, IfErr, OnOk};
-ghost use Rattle.nl_types.specs.Worlds.{World};
+ghost use Rattle.nl_types.specs.Plain.Worlds.{World};
 ghost use Rattle.nl_keep.specs.MinorOnes.{RemovesMinor, TakesOutAll, is_plain_minor, minor_ones};
 ghost use Rattle.nl_keep.specs.Private.Refused.{RefusesMinor, RefusesMinorOnes};
 ghost use Rattle.nl_keep.specs.Volumes.{LeadsTo};

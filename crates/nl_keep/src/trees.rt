@@ -1,6 +1,6 @@
 //! Whole trees of a volume.
 ghost use Rattle.std.specs.Prelude.{◌≡◌, ◌⊎◌, IfErr, IfOk, None, OnOk, Some};
-ghost use Rattle.nl_types.specs.Worlds.{World, Copy, copy_at};
+ghost use Rattle.nl_types.specs.Plain.Worlds.{World, Copy, copy_at};
 ghost use Rattle.nl_folders.specs.Refusals.{RefusesTree};
 ghost use Rattle.nl_keep.specs.Stored.{IsKept, KeepsTree};
 ghost use Rattle.nl_keep.specs.Volumes.{LeadsTo, Stays};
@@ -26,9 +26,11 @@ pub fn current_tree<V: Volume>(alloc: Global, volume: V) -> Result<(Tree, V), Fo
     Ok((tree, folder.volume))
 }
 
-/// Judges whether a checkpoint is kept: its root stands there then. Refused by `NoCheckpoint` where it isn't,
-/// and by `Memory`.
-fn judge_kept<V: Volume>(
+/// Judges whether a checkpoint is kept: its root stands there then.
+///
+/// # Errors
+/// `Refused` by `NoCheckpoint` where it isn't kept, and by `Memory`.
+pub fn judge_kept<V: Volume>(
     alloc: Global,
     volume: &V,
     number: CheckpointNumber,

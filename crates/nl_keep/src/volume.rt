@@ -1,6 +1,6 @@
 //! What keeping asks of a volume.
-ghost use Rattle.nl_types.specs.Calls.{IsReadReply};
-ghost use Rattle.nl_types.specs.Worlds.{IsWorld, World};
+ghost use Rattle.nl_types.specs.Plain.Calls.{IsReadReply};
+ghost use Rattle.nl_types.specs.Plain.Worlds.{IsWorld, World};
 ghost use Rattle.nl_keep.specs.Volumes.{Follows, LeadsTo, reply_at};
 
 use nl_types::{Ask, CheckpointNumber, Event, Reply};

@@ -1,7 +1,7 @@
 -- What is made of an image and read of it.
 use Rattle.std.proofs.Common.{◌≡◌, ℕ, List, [], ◌∷◌, false, map, refl, sym, ap, ◌∙◌, subst}
-use Rattle.nl_types.specs.Trees.{Tree}
-use Rattle.nl_types.specs.Worlds.{World, copy_at, formatted}
+use Rattle.nl_types.specs.Plain.Trees.{Tree}
+use Rattle.nl_types.specs.Plain.Worlds.{World, copy_at, formatted}
 use Rattle.nl_image.specs.Parts.{with_present_mark}
 use Rattle.nl_commit.specs.Layout.{IsPen, Layout, MeansWorld}
 use Rattle.nl_core.specs.Opened.{IsAtRest}

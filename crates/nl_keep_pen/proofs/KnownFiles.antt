@@ -8,10 +8,10 @@ use Rattle.std.proofs.lemmas.Option.{same_Some}
 use Rattle.nl_types.specs.declared.error.VolError.TheVariants.{NoCheckpoint}
 use Rattle.nl_types.specs.declared.reply.Node.TheVariants.{File}
 use Rattle.nl_types.specs.declared.row.Row.{Row}
-use Rattle.nl_types.specs.Paths.{Path}
-use Rattle.nl_types.specs.Rows.{kept_row}
-use Rattle.nl_types.specs.Trees.{IsTree, Tree, lookup}
-use Rattle.nl_types.specs.Worlds.{World, Copy, IsWorld, copy_at, copy_row, rows}
+use Rattle.nl_types.specs.Plain.Paths.{Path}
+use Rattle.nl_types.specs.Plain.Rows.{kept_row}
+use Rattle.nl_types.specs.Plain.Trees.{IsTree, Tree, lookup}
+use Rattle.nl_types.specs.Plain.Worlds.{World, Copy, IsWorld, copy_at, copy_row, rows}
 use Rattle.nl_types.specs.Facts.ToldCopies.{find_row-copies}
 use Rattle.nl_commit.specs.Layout.{IsPen, Layout, MeansWorld}
 use Rattle.nl_core.specs.SameFiles.{HasFile, HaveOneInode}

@@ -1,3 +1,4 @@
 pub mod KnownFiles
 pub mod Images
 pub mod Runs
+pub mod UnreadAnswers

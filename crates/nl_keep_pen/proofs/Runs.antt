@@ -3,8 +3,8 @@ use Rattle.std.proofs.Common.{◌≡◌, ℕ, true, List, [], ◌∷◌, refl, s
 use Rattle.std.proofs.lemmas.Option.{same_Some}
 use Rattle.std.specs.FinMap.{is_sorted}
 use Rattle.std.specs.Ordering.{nat_cmp}
-use Rattle.nl_types.specs.Trees.{Tree}
-use Rattle.nl_types.specs.Worlds.{World, Copy, copy_at, latest_stamp}
+use Rattle.nl_types.specs.Plain.Trees.{Tree}
+use Rattle.nl_types.specs.Plain.Worlds.{World, Copy, copy_at, latest_stamp}
 use Rattle.nl_image.specs.Laws.{PresentMarkStays}
 use Rattle.nl_image.specs.Parts.{with_present_mark}
 use Rattle.nl_commit.specs.Volume.{kept_by}

@@ -3,9 +3,9 @@ use Rattle.std.specs.Prelude.{◌≡◌, ℕ, IsTrue, Bool, true, false}
 use Rattle.std.proofs.Common.{refl, subst, sym}
 use Rattle.std.proofs.Math.Logic.{∥∥₁_elim}
 use Rattle.std.proofs.Props.{props}
-use Rattle.nl_types.specs.Paths.{Path}
-use Rattle.nl_types.specs.Trees.{Tree}
-use Rattle.nl_types.specs.Worlds.{World}
+use Rattle.nl_types.specs.Plain.Paths.{Path}
+use Rattle.nl_types.specs.Plain.Trees.{Tree}
+use Rattle.nl_types.specs.Plain.Worlds.{World}
 use Rattle.nl_commit.specs.Layout.{Layout}
 use Rattle.nl_core.specs.SameFiles.{HaveOneInode}
 use Rattle.nl_folders.specs.Differences.{Differences, differences}

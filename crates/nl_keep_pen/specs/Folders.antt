@@ -1,7 +1,7 @@
 -- What comes back of a folder of the host, over many runs.
 use Rattle.std.specs.Prelude.{◌≡◌, ℕ, List}
-use Rattle.nl_types.specs.Trees.{Tree}
-use Rattle.nl_types.specs.Worlds.{World}
+use Rattle.nl_types.specs.Plain.Trees.{Tree}
+use Rattle.nl_types.specs.Plain.Worlds.{World}
 use Rattle.nl_image.specs.Parts.{with_present_mark}
 use Rattle.nl_manifests.specs.HostTrees.{HostTree, Shows}
 use Rattle.nl_keep_pen.specs.Images.{ImageMeans, ReadsFromImage, StoresInImage}

@@ -1,7 +1,7 @@
 -- What the image of a volume means, and what is made of one image or read of it.
 use Rattle.std.specs.Prelude.{◌≡◌, ℕ, List}
-use Rattle.nl_types.specs.Trees.{Tree}
-use Rattle.nl_types.specs.Worlds.{World}
+use Rattle.nl_types.specs.Plain.Trees.{Tree}
+use Rattle.nl_types.specs.Plain.Worlds.{World}
 use Rattle.nl_image.specs.Parts.{with_present_mark}
 use Rattle.nl_commit.specs.Layout.{IsPen, Layout, MeansWorld}
 use Rattle.nl_core.specs.PenImages.{CanBeClosed, IsPenImage}

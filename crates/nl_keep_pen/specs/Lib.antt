@@ -2,5 +2,6 @@ pub mod Compared
 pub mod Folders
 pub mod Images
 pub mod Runs
+pub mod UnreadTrees
 -- for proofs of other crates
 pub mod Facts

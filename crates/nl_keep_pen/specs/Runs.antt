@@ -1,8 +1,8 @@
 -- What is kept from one image to the next, over many runs.
 use Rattle.std.specs.Prelude.{◌≡◌, ℕ, false, List, [], ◌∷◌, Some}
-use Rattle.nl_types.specs.NumberLists.{is_one_of}
-use Rattle.nl_types.specs.Trees.{Tree}
-use Rattle.nl_types.specs.Worlds.{World, Copy, copy_at}
+use Rattle.nl_types.specs.Plain.NumberLists.{is_one_of}
+use Rattle.nl_types.specs.Plain.Trees.{Tree}
+use Rattle.nl_types.specs.Plain.Worlds.{World, Copy, copy_at}
 use Rattle.nl_image.specs.Parts.{with_present_mark}
 use Rattle.nl_keep_pen.specs.Images.{ForgetsInImage, ImageMeans, ReadsFromImage, StoresInImage}
 

@@ -1,7 +1,7 @@
 //! What differs between two kept checkpoints of a volume, at the cost of what differs.
 ghost use Rattle.std.specs.Prelude.{◌≡◌, ◌⊎◌, Err, IfErr, IfOk, None, OnOk};
-ghost use Rattle.nl_types.specs.Trees.{Tree};
-ghost use Rattle.nl_types.specs.Worlds.{World, copy_at};
+ghost use Rattle.nl_types.specs.Plain.Trees.{Tree};
+ghost use Rattle.nl_types.specs.Plain.Worlds.{World, copy_at};
 ghost use Rattle.nl_commit.specs.Layout.{MeansWorld};
 ghost use Rattle.nl_folders.specs.Passing.{AreSameFiles};
 ghost use Rattle.nl_keep.specs.Stored.{IsKept, KeepsTree};

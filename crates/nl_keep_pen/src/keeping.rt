@@ -1,6 +1,6 @@
 //! From one image to the next: a volume formatted, a tree stored, a checkpoint read, checkpoints forgotten.
 ghost use Rattle.std.specs.Prelude.{◌≡◌, ◌⊎◌, IfErr, IfOk};
-ghost use Rattle.nl_types.specs.Worlds.{formatted};
+ghost use Rattle.nl_types.specs.Plain.Worlds.{formatted};
 ghost use Rattle.nl_image.specs.Conditions.{IsShapeOf, MeetsFirst};
 ghost use Rattle.nl_image.specs.Parts.{Parts};
 ghost use Rattle.nl_commit.specs.Layout.{IsPen};
@@ -10,11 +10,9 @@ ghost use Rattle.nl_keep_pen.specs.Images.{ForgetsInImage, HasCurrent, ImageMean
 
 use crate::PenVolume;
 use crate::tidying::{Preparing, Tidying};
-use nl_core::laws::pens_of_one_image_mean_one_world;
 use nl_core::{Pen, open};
 use nl_device::Device;
 use nl_folders::{Path, Tree};
-use nl_keep::laws::forgets_keep_others;
 use nl_keep::{KeepError, Stored, checkpoint_tree, current_tree, forget, store_over};
 use nl_types::{CheckpointNumber, Geometry, Node, VolError};
 use std::alloc::Global;
@@ -70,7 +68,7 @@ pub fn backup_image<D: Device, P: Preparing>(
     ensures stored { IfOk result (λ done.
         StoresInImage moment done.0.number wanted.now image.now done.1.items) }
 {
-    pens_of_one_image_mean_one_world();
+    nl_core::laws::pens_of_one_image_mean_one_world();
     let pen = open(alloc, image, device)?;
     let (earlier, mut volume) = current_tree(alloc, PenVolume { pen })?;
     preparing.prepare(&mut volume, earlier.as_slice())?;
@@ -92,7 +90,7 @@ pub fn restore_image<D: Device>(
     requires shape { (p : Parts) → MeetsFirst 2 image.now p → IsShapeOf (D.shape device) p.shape }
     ensures { IfOk result (λ tree. ReadsFromImage number tree image.now) }
 {
-    pens_of_one_image_mean_one_world();
+    nl_core::laws::pens_of_one_image_mean_one_world();
     let pen = open(alloc, image, device)?;
     let volume = PenVolume { pen };
     let tree = checkpoint_tree(alloc, &volume, number)?;
@@ -114,8 +112,8 @@ pub fn forget_image<D: Device, T: Tidying>(
     requires shape { (p : Parts) → MeetsFirst 2 image.now p → IsShapeOf (D.shape device) p.shape }
     ensures { IfOk result (λ next. ForgetsInImage numbers.now image.now next.items) }
 {
-    pens_of_one_image_mean_one_world();
-    forgets_keep_others();
+    nl_core::laws::pens_of_one_image_mean_one_world();
+    nl_keep::laws::forgets_keep_others();
     let pen = open(alloc, image, device)?;
     let mut volume = forget(PenVolume { pen }, numbers)?;
     tidying.tidy(&mut volume)?;

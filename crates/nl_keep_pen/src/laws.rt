@@ -2,15 +2,11 @@
 ghost use Rattle.nl_keep_pen.specs.Folders.{FoldersComeBack};
 ghost use Rattle.nl_keep_pen.specs.Runs.{BackupsComeBack, BackupsKeepThrough, ForgetsKeepThrough, ImagesHaveThePresentMark};
 
-use nl_image::laws::store_images_have_the_present_mark;
-use nl_keep::laws::{forgets_keep_others, stores_keep_copies};
-use nl_manifests::laws::trees_show_one;
-
 /// The image of a closed pen has the present mark.
 pub fn images_have_the_present_mark()
     ensures { ImagesHaveThePresentMark }
 {
-    store_images_have_the_present_mark();
+    nl_image::laws::store_images_have_the_present_mark();
 }
 
 /// A backup keeps all checkpoints that there were, and forgetting keeps all others.
@@ -18,8 +14,8 @@ pub fn runs_keep_checkpoints()
     ensures backups { BackupsKeepThrough }
     ensures forgets { ForgetsKeepThrough }
 {
-    stores_keep_copies();
-    forgets_keep_others();
+    nl_keep::laws::stores_keep_copies();
+    nl_keep::laws::forgets_keep_others();
 }
 
 /// What was backed up is what is restored, however many runs that keep it came between: backups, and forgets
@@ -36,5 +32,5 @@ pub fn folders_come_back()
     ensures { FoldersComeBack }
 {
     backups_come_back();
-    trees_show_one();
+    nl_manifests::laws::trees_show_one();
 }

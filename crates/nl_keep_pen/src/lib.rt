@@ -5,6 +5,7 @@ mod comparing;
 mod keeping;
 pub mod laws;
 mod tidying;
+mod unread;
 
 pub use comparing::{SameFiles, checkpoint_differences};
 pub use keeping::{backup_image, forget_image, format_image, restore_image};
@@ -13,6 +14,7 @@ use nl_device::Device;
 use nl_keep::Volume;
 use nl_types::{Ask, CheckpointNumber, Event, Reply};
 pub use tidying::{Preparing, Tidying};
+pub use unread::{is_manifest_path, unread_tree};
 
 /// A pen, as a volume that keeps trees.
 #[derive(Drop)]

@@ -1,7 +1,7 @@
 -- What a session begins with: the pen of a new volume, or that of an image.
 use Rattle.std.specs.Prelude.{◌≡◌, ◌⊎◌, ℕ, List, IsSome, None, Option, option_map}
-use Rattle.nl_types.specs.Limits.{IsGeometry}
-use Rattle.nl_types.specs.Worlds.{formatted}
+use Rattle.nl_types.specs.Plain.Limits.{IsGeometry}
+use Rattle.nl_types.specs.Plain.Worlds.{formatted}
 use Rattle.nl_types.specs.declared.error.VolError.{VolError}
 use Rattle.nl_types.specs.declared.error.VolError.TheVariants.{BadGeometry, BadImage, Fault, Memory}
 use Rattle.nl_types.specs.declared.geometry.Geometry.{Geometry}

@@ -33,7 +33,7 @@ pub enum SaveFault {
     Changed(PathBuf),
 }
 
-/// Makes a plain checkpoint. It stands apart from `settle`, so that no event is alive where that leaves.
+/// Makes a plain checkpoint. It stands apart from `checkpoint_if_dirty`, so that no event is alive where that leaves.
 fn checkpoint<D: Device>(pen: &mut Pen<D>, moment: u64) -> Reply
     ensures { Does unshared pen.old (event.Checkpoint mode.Plain moment) result pen.new }
 {
@@ -47,7 +47,7 @@ fn checkpoint<D: Device>(pen: &mut Pen<D>, moment: u64) -> Reply
 }
 
 /// Makes a plain checkpoint where something is dirty.
-fn settle<D: Device>(pen: &mut Pen<D>, moment: u64) -> Result<(), VolError>
+fn checkpoint_if_dirty<D: Device>(pen: &mut Pen<D>, moment: u64) -> Result<(), VolError>
     ensures settled { IsOk result → IsSettled pen.old.lists.dirty moment pen.old pen.new }
     ensures refused { IfErr result (IsUnsettled moment pen.old) }
 {
@@ -63,7 +63,7 @@ fn image_of<D: Device>(pen: &mut Pen<D>, moment: u64) -> Result<Vec<u8>, VolErro
     ensures saved { IfOk result (λ image. SavesFrom moment pen.old image.items) }
     ensures refused { IfErr result (IsSaveRefused moment pen.old) }
 {
-    settle(pen, moment)?;
+    checkpoint_if_dirty(pen, moment)?;
     pen.means_a_world();
     let image = pen.close()?;
     Ok(image)

@@ -3,8 +3,8 @@ use Rattle.std.specs.Prelude.{ℕ, ◌≡◌, ◌⊎◌, List, [], ◌∷◌, Al
 use Rattle.std.specs.List.{AllZip}
 use Rattle.nl_types.specs.declared.error.VolError.{VolError}
 use Rattle.nl_types.specs.declared.error.VolError.TheVariants.{BadMount, Memory}
-use Rattle.nl_types.specs.Trees.{Tree}
-use Rattle.nl_commit.specs.Commits.{image_of}
+use Rattle.nl_types.specs.Plain.Trees.{Tree}
+use Rattle.nl_commit.specs.Commits.{shown_after}
 use Rattle.nl_publish.specs.Histories.{Known}
 use Rattle.nl_publish.specs.Mounts.{Claim}
 use Rattle.nl_publish.specs.Told.{TreeOn}
@@ -17,7 +17,7 @@ JobAnswer = Result (List ℕ) VolError
 -- the job is refused for its mount; or it gets what the tree says that the mount's checkpoint had when the
 -- mount was told, the bytes or a refusal; or it is refused for memory
 abbrev pub IsAnswerTo : Claim → ReadJob → JobAnswer → Type 0
-IsAnswerTo m job answer = (t : Tree) → TreeOn (image_of m.told.commits) m.checkpoint t
+IsAnswerTo m job answer = (t : Tree) → TreeOn (shown_after m.told.commits) m.checkpoint t
     → (answer ≡ Err BadMount) ⊎ IsBytesOf t job.path job.offset job.len answer
 
 -- the answer to a job that no answer came to

@@ -3,10 +3,10 @@ use Rattle.std.specs.Prelude.{ℕ, ◌≡◌, ◌≢◌, ◌⊎◌, List, Some, 
 use mathlib.Core.List.{IsPrefix}
 use Rattle.nl_types.specs.declared.error.VolError.{VolError}
 use Rattle.nl_types.specs.declared.reply.Answer.TheVariants.{Bytes}
-use Rattle.nl_types.specs.Calls.{ShowsUnlessMemory, and_then, read}
-use Rattle.nl_types.specs.Paths.{path_of}
-use Rattle.nl_types.specs.Trees.{Tree}
-use Rattle.nl_commit.specs.Commits.{IsHistory, image_of}
+use Rattle.nl_types.specs.Plain.Calls.{ShowsUnlessMemory, and_then, read}
+use Rattle.nl_types.specs.Plain.Paths.{path_of}
+use Rattle.nl_types.specs.Plain.Trees.{Tree}
+use Rattle.nl_commit.specs.Commits.{IsHistory, shown_after}
 use Rattle.nl_commit.specs.Shown.{mounted_on}
 use Rattle.nl_publish.specs.Histories.{Known}
 use Rattle.nl_publish.specs.Mounts.{Claim}
@@ -35,13 +35,13 @@ pub data Looked (m : Claim) (old new : Known) (Ungiven Refused : Type 0) (Answer
   NoImage : m.told.volume ≡ old.volume → Ungiven → new ≡ old → Refused
       → Looked m old new Ungiven Refused Answers
   NoMount : m.told.volume ≡ old.volume → IsHistory new.commits
-      → mounted_on (image_of new.commits) m.number ≡ None → Refused
+      → mounted_on (shown_after new.commits) m.number ≡ None → Refused
       → Looked m old new Ungiven Refused Answers
   Entered : (n : ℕ) → m.told.volume ≡ old.volume → IsHistory new.commits
-      → mounted_on (image_of new.commits) m.number ≡ Some n
-      → ((t : Tree) → TreeOn (image_of new.commits) n t → Answers t)
+      → mounted_on (shown_after new.commits) m.number ≡ Some n
+      → ((t : Tree) → TreeOn (shown_after new.commits) n t → Answers t)
       → Looked m old new Ungiven Refused Answers
 
 -- what is answered is true of the tree that the mount's checkpoint had when the mount was told
 abbrev pub Told : Claim → (Refused : Type 0) → (Answers : Tree → Type 0) → Type 0
-Told m Refused Answers = (t : Tree) → TreeOn (image_of m.told.commits) m.checkpoint t → Refused ⊎ Answers t
+Told m Refused Answers = (t : Tree) → TreeOn (shown_after m.told.commits) m.checkpoint t → Refused ⊎ Answers t

@@ -11,7 +11,7 @@ use Rattle.std.specs.Int.{bytes_low_first, byte_at}
 use Rattle.byteorder.specs.Endian.{little_bytes, little_number}
 use Rattle.byteorder.specs.Numbers.{little_number-reads_back, little_from-cons, little_from-lt, length-bytes_low_first}
 use borrow.Rule.Slice.PartMut.{put_mid}
-use Rattle.nl_types.specs.Roots.{numbered, slot}
+use Rattle.nl_types.specs.Blocks.Roots.{numbered, slot}
 use Rattle.nl_layout.specs.Node.{Spells, slots_bytes, slots_at}
 use Rattle.nl_layout.specs.Facts.Writing.{put_mid-seam}
 

@@ -1,6 +1,6 @@
 -- What a root of the code stands for, and how it is spelled.
 use Rattle.std.specs.Prelude.{ℕ, zero, suc, ◌==◌, ◌&&◌, nat_le, if◌then◌else◌, Option, None, Some}
-use Rattle.nl_types.specs.Roots as roots
+use Rattle.nl_types.specs.Blocks.Roots as roots
 use Rattle.nl_layout.specs.declared.root.Root.{Root}
 use Rattle.nl_layout.specs.declared.root.Root.TheVariants.{Empty, Chain, Tree}
 use Rattle.nl_layout.specs.declared.root.RootFields.{RootFields}

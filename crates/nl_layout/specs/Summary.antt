@@ -1,7 +1,7 @@
 -- The summary block of a log: 64 bytes of header, and room for 30 records.
 use Rattle.std.specs.Prelude.{◌≡◌, ℕ, ◌-◌, ◌*◌, ◌<◌, ◌≤◌, ◌^◌, List, [], ◌∷◌, ◌++◌, length, replicate, drop, codes, flat_map, All, zero, suc}
 use Rattle.byteorder.specs.Endian.{little_bytes, little_number}
-use Rattle.nl_types.specs.Limits.{log_limit}
+use Rattle.nl_types.specs.Plain.Limits.{log_limit}
 use Rattle.nl_layout.specs.declared.tag.Tag.{Tag}
 use Rattle.nl_layout.specs.Tag.{tag_bytes, tag_at, TagHasSpelling}
 

@@ -1,7 +1,7 @@
 //! The nodes above the data of a file.
 ghost use Rattle.std.specs.Prelude.{◌≡◌, ◌<◌, ◌≤◌, ◌^◌, ◌*◌, ◌++◌, ℕ, List, drop, length, slice_index, All, IfSome, Some};
 ghost use Rattle.byteorder.specs.Endian.{little_bytes};
-ghost use Rattle.nl_types.specs.Roots.{numbered, slot};
+ghost use Rattle.nl_types.specs.Blocks.Roots.{numbered, slot};
 ghost use Rattle.nl_layout.specs.Node.{Spells, slots_bytes, slots_at};
 
 use byteorder::{ByteOrder, LittleEndian};

@@ -1,7 +1,7 @@
 //! The summary block of a log.
 ghost use Rattle.std.specs.Prelude.{◌≡◌, ◌<◌, ◌≤◌, ◌-◌, ◌*◌, ◌^◌, ◌++◌, length, drop, replicate, All, IfSome, Some};
 ghost use Rattle.std.specs.Option.{SomeIff};
-ghost use Rattle.nl_types.specs.Limits as limits;
+ghost use Rattle.nl_types.specs.Plain.Limits as limits;
 ghost use Rattle.nl_layout.specs.Tag.{TagHasSpelling};
 ghost use Rattle.nl_layout.specs.Summary.{Contents, HaveLevels, Spells, contents_at, header_bytes, tags_at, tags_bytes};
 

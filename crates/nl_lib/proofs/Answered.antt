@@ -13,22 +13,23 @@ use Rattle.nl_types.specs.declared.reply.Answer.{Answer}
 use Rattle.nl_types.specs.declared.reply.Answer.TheVariants as answer
 use Rattle.nl_types.specs.declared.reply.Node.TheVariants.{Dir, File}
 use Rattle.nl_types.specs.declared.row.ListOptions.{ListOptions}
-use Rattle.nl_types.specs.Calls as calls
-use Rattle.nl_types.specs.Calls.{ReadTakesMemory, and_then, file_at, refuse_if}
-use Rattle.nl_types.specs.Limits.{file_limit}
-use Rattle.nl_types.specs.Paths.{Path, path_of}
-use Rattle.nl_types.specs.Rows.{range_removal}
-use Rattle.nl_types.specs.Runs.{TakesMemory}
-use Rattle.nl_types.specs.Trees.{Tree, insert}
-use Rattle.nl_types.specs.Worlds.{Outcome, Reply, World, latest, rows, step}
+use Rattle.nl_types.specs.Plain.Calls as calls
+use Rattle.nl_types.specs.Plain.Calls.{ReadTakesMemory, and_then, file_at, refuse_if}
+use Rattle.nl_types.specs.Plain.Limits.{file_limit}
+use Rattle.nl_types.specs.Plain.Paths.{Path, path_of}
+use Rattle.nl_types.specs.Plain.Rows.{range_removal}
+use Rattle.nl_types.specs.Plain.Runs.{TakesMemory}
+use Rattle.nl_types.specs.Plain.Trees.{Tree, insert}
+use Rattle.nl_types.specs.Plain.Worlds.{Outcome, Reply, World, latest, rows, step}
 use Rattle.nl_types.specs.Facts.CallLookups.{calls_answer_done}
 use Rattle.nl_types.specs.Facts.EventCases.{either_gives}
 use Rattle.nl_types.specs.Facts.Judgements.{and_then_any, refuse_if_then}
 use Rattle.nl_commit.specs.Layout.{Becomes, Does, IsPen, Layout, cleaned, unshared}
 use Rattle.nl_events.specs.Facts.Ledgers.{same-numbers}
-use Rattle.nl_lib.specs.Calls.{IsReplyWith, change_at, reply_with}
-use Rattle.nl_lib.specs.declared.files.PathCall.{PathCall}
-use Rattle.nl_lib.specs.declared.files.PathCall.TheVariants as call
+use Rattle.nl_calls.specs.Changes.{change_at}
+use Rattle.nl_calls.specs.Replies.{IsReplyWith, reply_with}
+use Rattle.nl_calls.specs.declared.changes.PathCall.{PathCall}
+use Rattle.nl_calls.specs.declared.changes.PathCall.TheVariants as call
 
 -- ---- what worlds answer
 

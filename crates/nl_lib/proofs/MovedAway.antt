@@ -9,8 +9,8 @@ use Rattle.nl_types.specs.declared.event.Event.TheVariants.{Move, Retire}
 use Rattle.nl_types.specs.declared.reply.Answer.{Answer}
 use Rattle.nl_types.specs.declared.segment.SegmentInfo.{SegmentInfo}
 use Rattle.nl_types.specs.declared.segment.SegmentState.TheVariants.{Active, Clean, Dirty, Error}
-use Rattle.nl_types.specs.Segments.{IsClosed, Segments, clean_info, is_closed}
-use Rattle.nl_types.specs.Worlds.{Reply}
+use Rattle.nl_types.specs.Blocks.Segments.{IsClosed, Segments, clean_info, is_closed}
+use Rattle.nl_types.specs.Plain.Worlds.{Reply}
 use Rattle.nl_vstore.specs.Located.{needed_count}
 use Rattle.nl_reclaim.specs.Cleaning.{judged_segment, judged_by, judged_info}
 use Rattle.nl_reclaim.specs.Moves.{HasMovedPages, needed_now}

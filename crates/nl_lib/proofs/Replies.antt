@@ -8,10 +8,10 @@ use Rattle.nl_types.specs.declared.event.Event.TheVariants as event
 use Rattle.nl_types.specs.declared.event.Mode.{Mode}
 use Rattle.nl_types.specs.declared.reply.Answer.{Answer}
 use Rattle.nl_types.specs.declared.reply.Answer.TheVariants as answer
-use Rattle.nl_types.specs.Limits.{checkpoint_number_limit}
-use Rattle.nl_types.specs.Rows.{kept_row, removal}
-use Rattle.nl_types.specs.Runs.{TakesMemory}
-use Rattle.nl_types.specs.Worlds.{Copy, Outcome, Reply, World, change_mode, checkpoint, copies_with_mode, is_given_up, is_mounted, latest, latest_stamp, refused_if, remove, rows, take_out}
+use Rattle.nl_types.specs.Plain.Limits.{checkpoint_number_limit}
+use Rattle.nl_types.specs.Plain.Rows.{kept_row, removal}
+use Rattle.nl_types.specs.Plain.Runs.{TakesMemory}
+use Rattle.nl_types.specs.Plain.Worlds.{Copy, Outcome, Reply, World, change_mode, checkpoint, copies_with_mode, is_given_up, is_mounted, latest, latest_stamp, refused_if, remove, rows, take_out}
 use Rattle.nl_types.specs.Facts.EventCases.{either_gives, refused_if_gives}
 use Rattle.nl_commit.specs.Layout.{Does, IsPen, Layout, layout_pages, unshared}
 use Rattle.nl_commit.specs.Volume.{Lists}

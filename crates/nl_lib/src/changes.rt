@@ -4,12 +4,13 @@ ghost use Rattle.nl_types.specs.declared.event.Event.TheVariants.{ChangeMode, Ch
 ghost use Rattle.nl_types.specs.declared.event.Mode.TheVariants.{Plain, Snapshot};
 ghost use Rattle.nl_types.specs.declared.reply.Answer.{Answer};
 ghost use Rattle.nl_types.specs.declared.reply.Answer.TheVariants as answer;
-ghost use Rattle.nl_types.specs.Worlds as worlds;
-ghost use Rattle.nl_types.specs.Worlds.{World};
+ghost use Rattle.nl_types.specs.Plain.Worlds as worlds;
+ghost use Rattle.nl_types.specs.Plain.Worlds.{World};
 ghost use Rattle.nl_commit.specs.Layout.{Does, MeansWorld, unshared};
-ghost use Rattle.nl_lib.specs.Calls.{Syncs, done_reply, reply_with};
+ghost use Rattle.nl_calls.specs.Replies.{reply_with};
+ghost use Rattle.nl_lib.specs.Calls.{Syncs, done_reply};
 
-use crate::answers::{range_removed, without_answer};
+use nl_calls::{range_removed, without_answer};
 use nl_core::Pen;
 use nl_device::Device;
 use nl_types::{CheckpointNumber, Event, Mode, Range, VolError};

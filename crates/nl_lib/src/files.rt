@@ -4,53 +4,20 @@
 //! A path is refused by `BadPath` where it doesn't begin with a slash or is too long, and by `BadName` where
 //! a part of it is no name. On the way to its last part a walk is refused by `NotFound` where nothing stands
 //! at a part, and by `NotDir` where a file does. What else a call is refused by is said there.
-ghost use Rattle.std.specs.Prelude.{◌≡◌, IfOk};
 ghost use Rattle.nl_types.specs.declared.event.Change.TheVariants as change;
 ghost use Rattle.nl_types.specs.declared.event.Event.TheVariants.{Apply};
 ghost use Rattle.nl_types.specs.declared.reply.Answer.TheVariants as answer;
 ghost use Rattle.nl_commit.specs.Layout.{Does, unshared};
-ghost use Rattle.nl_lib.specs.Calls.{change_at, done_reply, reply_with};
+ghost use Rattle.nl_calls.specs.Changes.{change_at};
+ghost use Rattle.nl_calls.specs.Replies.{reply_with};
+ghost use Rattle.nl_lib.specs.Calls.{done_reply};
 
-use crate::answers::written;
 use crate::changes::apply;
+use nl_calls::{PathCall, copies, written};
 use nl_core::Pen;
 use nl_device::Device;
 use nl_types::{Change, Event, Items, VolError};
-use std::alloc::{AllocError, Global};
-
-/// A change of what stands at one path.
-#[derive(Clone, Copy)]
-pub enum PathCall {
-    Create,
-    Mkdir,
-    Truncate(u64),
-    Unlink,
-    Rmdir,
-}
-
-impl PathCall {
-    fn change(self, path: Items<u8>) -> Change
-        ensures { result ≡ change_at self path }
-    {
-        match self {
-            PathCall::Create => Change::Create { path },
-            PathCall::Mkdir => Change::Mkdir { path },
-            PathCall::Truncate(size) => Change::Truncate { path, size },
-            PathCall::Unlink => Change::Unlink { path },
-            PathCall::Rmdir => Change::Rmdir { path },
-        }
-    }
-}
-
-/// Copies of two lists of bytes.
-fn copies(alloc: Global, first: &[u8], second: &[u8]) -> Result<(Items<u8>, Items<u8>), AllocError>
-    ensures first { IfOk result (λ copied. copied.0 ≡ first.now) }
-    ensures second { IfOk result (λ copied. copied.1 ≡ second.now) }
-{
-    let first = Items::from_slice(alloc, first)?;
-    let second = Items::from_slice(alloc, second)?;
-    Ok((first, second))
-}
+use std::alloc::Global;
 
 /// Changes what stands at a path.
 fn change_path<D: Device>(

@@ -8,7 +8,6 @@
 //! events on a pen by itself: `nl_cleaner::Job::step`.
 #![tactic(auto)]
 
-mod answers;
 mod asks;
 mod changes;
 mod cleaning;

@@ -1,10 +1,10 @@
 //! What is told of a volume. Each call is answered from what the pen holds in memory.
 ghost use Rattle.std.specs.Prelude.{◌≡◌, ◌↔◌, ◌⊎◌, ◌+◌, ◌<◌, ◌≤◌, length, IfErr, IfOk, IsErr, IsErrOf, OnErr, slice_get};
 ghost use Rattle.std.specs.Option.{ok_or, option_map};
-ghost use Rattle.nl_types.specs.Rows.{kept_row};
-ghost use Rattle.nl_types.specs.Segments.{clean_segments};
-ghost use Rattle.nl_types.specs.Worlds as worlds;
-ghost use Rattle.nl_types.specs.Worlds.{World};
+ghost use Rattle.nl_types.specs.Plain.Rows.{kept_row};
+ghost use Rattle.nl_types.specs.Blocks.Segments.{clean_segments};
+ghost use Rattle.nl_types.specs.Plain.Worlds as worlds;
+ghost use Rattle.nl_types.specs.Plain.Worlds.{World};
 ghost use Rattle.nl_cpfile.specs.Tables as cpfile;
 ghost use Rattle.nl_dat.specs.Described.{descs_of};
 ghost use Rattle.nl_vstore.specs.Stores.{capacity, numbered_in};
@@ -19,7 +19,7 @@ use nl_dat::{Bdesc, DatEntry};
 use nl_device::Device;
 use nl_sufile::Sustat;
 use nl_types::{CheckpointNumber, Row, Segment, SegmentInfo, VirtualNumber, VolError};
-use nl_vstore::laws::summaries_are_one;
+use nl_vstore::laws;
 use std::alloc::Global;
 
 /// What is told of a kept checkpoint, after `nilfs_get_cpinfo`. Refused by `NoCheckpoint` where it isn't
@@ -99,6 +99,6 @@ pub fn get_bdescs<D: Device>(
     ensures logs { IsOfLogs pen.now.store segment (payload_row pen.now.store segment) }
 {
     pen.means_a_world();
-    summaries_are_one();
+    laws::summaries_are_one();
     pen.bdescs(alloc, segment)
 }

@@ -6,7 +6,7 @@ use Rattle.std.proofs.lemmas.Fmt.{decimal_by_steps}
 use Rattle.std.proofs.lemmas.Bool.Decides.{nat_tests}
 use Rattle.std.specs.Fmt.{decimal}
 use Rattle.std.specs.List.{list_all, flat_map}
-use Rattle.nl_types.specs.Characters.{dot, line_feed}
+use Rattle.nl_types.specs.Plain.Characters.{dot, line_feed}
 use Rattle.nl_manifests.specs.declared.attributes.Time.{Time}
 use Rattle.nl_manifests.specs.declared.attributes.Attributes.{Attributes}
 use Rattle.nl_manifests.specs.declared.manifest.LineKind.{LineKind}

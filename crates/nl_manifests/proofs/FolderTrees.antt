@@ -5,10 +5,10 @@ use Rattle.std.specs.List.{list_all, list_any}
 use Rattle.std.specs.FinMap.{find, is_sorted}
 use Rattle.std.proofs.lemmas.Bool.{and_parts, and_from}
 use Rattle.std.proofs.lemmas.Option.{same_Some}
-use Rattle.nl_types.specs.Characters.{dot, slash}
-use Rattle.nl_types.specs.Limits.{name_limit}
+use Rattle.nl_types.specs.Plain.Characters.{dot, slash}
+use Rattle.nl_types.specs.Plain.Limits.{name_limit}
 use Rattle.nl_types.specs.Facts.Booleans.{not_true}
-use Rattle.nl_types.specs.Paths.{Name, Path, is_name, path_cmp, same_name}
+use Rattle.nl_types.specs.Plain.Paths.{Name, Path, is_name, path_cmp, same_name}
 use Rattle.nl_manifests.specs.declared.attributes.Attributes.{Attributes}
 use Rattle.nl_manifests.specs.declared.host_tree.HostNode.{HostNode}
 use Rattle.nl_manifests.specs.declared.host_tree.HostNode.TheVariants.{Directory, File, Link}

@@ -5,7 +5,7 @@ use Rattle.std.specs.Ordering.{ordering_reverse}
 use Rattle.std.specs.FinMap.{find, is_sorted}
 use Rattle.std.specs.FinMap.Entries.{below_all, by_order}
 use Rattle.std.proofs.lemmas.Bool.{and_parts}
-use Rattle.nl_types.specs.Paths.{Path, path_cmp, same_path}
+use Rattle.nl_types.specs.Plain.Paths.{Path, path_cmp, same_path}
 use Rattle.nl_types.specs.Facts.TreeLaws.{path_total, paths_equal, same_path-equal}
 use Rattle.nl_manifests.specs.declared.comparing.HostDifference.{HostDifference}
 use Rattle.nl_manifests.specs.declared.comparing.HostDifference.TheVariants.{Added, Removed}

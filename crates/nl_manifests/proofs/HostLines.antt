@@ -11,8 +11,8 @@ use Rattle.std.specs.FinMap.{find, is_sorted}
 use Rattle.std.specs.FinMap.Entries.{below_all}
 use Rattle.std.proofs.lemmas.Bool.{and_parts, and_from}
 use Rattle.std.proofs.lemmas.Option.{same_Some}
-use Rattle.nl_types.specs.Paths.{Name, Path, is_within, name_cmp, path_cmp, same_name, same_path}
-use Rattle.nl_types.specs.Trees.{name_below}
+use Rattle.nl_types.specs.Plain.Paths.{Name, Path, is_within, name_cmp, path_cmp, same_name, same_path}
+use Rattle.nl_types.specs.Plain.Trees.{name_below}
 use Rattle.nl_types.specs.Facts.Booleans.{not_true}
 use Rattle.nl_types.specs.Facts.Lookups.{path_cmp-append, same_name-equal, same_name-itself}
 use Rattle.nl_types.specs.Facts.TreeLaws.{path_total, same_path-equal}

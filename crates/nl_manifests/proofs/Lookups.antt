@@ -7,7 +7,7 @@ use Rattle.std.specs.FinMap.{find, is_sorted}
 use Rattle.std.specs.FinMap.Entries.{below_all}
 use Rattle.std.proofs.lemmas.Bool.{and_parts, and_from}
 use Rattle.std.proofs.lemmas.List.{drop_more, take_rest}
-use Rattle.nl_types.specs.Paths.{Name, Path, name_cmp, path_cmp, same_name}
+use Rattle.nl_types.specs.Plain.Paths.{Name, Path, name_cmp, path_cmp, same_name}
 use Rattle.nl_types.specs.Facts.TreeLaws.{path_total}
 use Rattle.nl_manifests.specs.declared.manifest.Line.{Line}
 use Rattle.nl_manifests.specs.HostTrees.{line_named}

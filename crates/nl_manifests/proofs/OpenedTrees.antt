@@ -5,8 +5,8 @@ use Rattle.std.specs.FinMap.{find}
 use Rattle.std.proofs.lemmas.Option.{same_Some}
 use Rattle.nl_types.specs.declared.reply.Node.{Node}
 use Rattle.nl_types.specs.declared.reply.Node.TheVariants.{Dir, File}
-use Rattle.nl_types.specs.Paths.{Name, Path, is_name, path_cmp, same_name}
-use Rattle.nl_types.specs.Trees.{Tree, IsTree, lookup}
+use Rattle.nl_types.specs.Plain.Paths.{Name, Path, is_name, path_cmp, same_name}
+use Rattle.nl_types.specs.Plain.Trees.{Tree, IsTree, lookup}
 use Rattle.nl_types.specs.Facts.Lookups.{same_name-equal, same_path-itself}
 use Rattle.nl_manifests.specs.declared.manifest.Line.{Line}
 use Rattle.nl_manifests.specs.declared.manifest.Manifest.{Manifest}

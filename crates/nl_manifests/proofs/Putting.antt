@@ -7,7 +7,7 @@ use Rattle.std.specs.List.{flat_map}
 use Rattle.std.specs.FinMap.{put, is_sorted}
 use Rattle.std.specs.FinMap.Entries.{is_sorted-put}
 use Rattle.std.proofs.lemmas.List.{at_drop_all, drop_more}
-use Rattle.nl_types.specs.Paths.{Path, path_cmp}
+use Rattle.nl_types.specs.Plain.Paths.{Path, path_cmp}
 use Rattle.nl_types.specs.Facts.Booleans.{holds, is_true}
 use Rattle.nl_types.specs.Facts.TreeLaws.{path_total}
 use Rattle.nl_manifests.specs.Private.Places.{BeginsAbove, GoesTo, IsBefore, IsPlace, Puts, PutsIfOrdered, puts}

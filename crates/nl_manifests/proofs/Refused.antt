@@ -1,7 +1,7 @@
 -- Lines that show nothing, manifest by manifest.
 use Rattle.std.proofs.Common.{◌≡◌, [], ◌∷◌, ◌++◌, Option, Some, None, refl, ap, ◌∙◌}
 use Rattle.std.specs.List.{flat_map}
-use Rattle.nl_types.specs.Trees.{Tree}
+use Rattle.nl_types.specs.Plain.Trees.{Tree}
 use Rattle.nl_manifests.specs.declared.manifest.Manifest.{Manifest}
 use Rattle.nl_manifests.specs.HostTrees.{Refused, manifest_for, refused, refused_in}
 use Rattle.nl_manifests.specs.Private.Opening.{Manifests, manifest_entry, manifests, refused_lines}

@@ -4,7 +4,7 @@ use Rattle.std.specs.List.{AllByRecursion, flat_map}
 use Rattle.std.specs.Option.{option_map}
 use Rattle.std.specs.FinMap.{find, put}
 use Rattle.std.specs.FinMap.Entries.{find-put}
-use Rattle.nl_types.specs.Paths.{Name, Path, path_cmp, same_path}
+use Rattle.nl_types.specs.Plain.Paths.{Name, Path, path_cmp, same_path}
 use Rattle.nl_types.specs.Facts.TreeLaws.{path_total, same_path-equal}
 use Rattle.nl_manifests.specs.HostTrees.{parted}
 use Rattle.nl_manifests.specs.Private.Places.{puts}

@@ -7,7 +7,7 @@ use Rattle.std.specs.FinMap.{find, put, is_sorted}
 use Rattle.std.specs.FinMap.Entries.{below_all, by_order}
 use Rattle.std.proofs.lemmas.Bool.{and_parts}
 use Rattle.std.proofs.lemmas.List.{drop_more}
-use Rattle.nl_types.specs.Paths.{Path, path_cmp}
+use Rattle.nl_types.specs.Plain.Paths.{Path, path_cmp}
 use Rattle.nl_types.specs.Facts.TreeLaws.{path_total, paths_equal}
 
 pub less_is : (o : Ordering) → is_lt o ≡ true → o ≡ Less

@@ -10,8 +10,8 @@ use Rattle.std.proofs.lemmas.Bool.{and_parts}
 use Rattle.std.proofs.lemmas.Option.{same_Some}
 use Rattle.nl_types.specs.declared.reply.Node.{Node}
 use Rattle.nl_types.specs.declared.reply.Node.TheVariants as nodes
-use Rattle.nl_types.specs.Paths.{Name, Path, is_name, path_cmp, same_name, same_path}
-use Rattle.nl_types.specs.Trees.{Tree, lookup}
+use Rattle.nl_types.specs.Plain.Paths.{Name, Path, is_name, path_cmp, same_name, same_path}
+use Rattle.nl_types.specs.Plain.Trees.{Tree, lookup}
 use Rattle.nl_types.specs.Facts.Lookups.{same_path-itself}
 use Rattle.nl_types.specs.Facts.TreeLaws.{paths_equal, same_path-equal}
 use Rattle.nl_folders.specs.declared.differences.Difference.TheVariants as difference

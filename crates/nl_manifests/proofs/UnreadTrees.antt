@@ -7,8 +7,8 @@ use Rattle.std.specs.FinMap.{find, is_sorted}
 use Rattle.std.specs.FinMap.Entries.{below_all}
 use Rattle.nl_types.specs.declared.reply.Node.{Node}
 use Rattle.nl_types.specs.declared.reply.Node.TheVariants.{Dir, File}
-use Rattle.nl_types.specs.Paths.{Name, Path, is_name, path_cmp, same_name, same_path}
-use Rattle.nl_types.specs.Trees.{Tree, lookup}
+use Rattle.nl_types.specs.Plain.Paths.{Name, Path, is_name, path_cmp, same_name, same_path}
+use Rattle.nl_types.specs.Plain.Trees.{Tree, lookup}
 use Rattle.nl_types.specs.Facts.Lookups.{same_name-itself}
 use Rattle.nl_types.specs.Facts.TreeLaws.{same_path-equal}
 use Rattle.nl_manifests.specs.declared.manifest.LineKind.{LineKind}

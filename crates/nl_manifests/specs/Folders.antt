@@ -1,7 +1,7 @@
 -- Folders of the host as a system has them.
 use Rattle.std.specs.Prelude.{◌≡◌, Bool, true, false, ◌&&◌, not, IsTrue, [], ◌∷◌, ◌++◌, is_none, is_some, Option, Some}
 use Rattle.std.specs.FinMap.{find, is_sorted}
-use Rattle.nl_types.specs.Paths.{Name, Path, is_name, path_cmp, same_name}
+use Rattle.nl_types.specs.Plain.Paths.{Name, Path, is_name, path_cmp, same_name}
 use Rattle.nl_manifests.specs.declared.attributes.Attributes.{Attributes}
 use Rattle.nl_manifests.specs.declared.host_tree.HostNode.{HostNode}
 use Rattle.nl_manifests.specs.declared.host_tree.HostNode.TheVariants.{Directory, File, Link}

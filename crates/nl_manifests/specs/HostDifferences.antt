@@ -3,7 +3,7 @@ use Rattle.std.specs.Prelude.{◌≡◌, ◌++◌, IsTrue, Bool, true, false, �
 use Rattle.std.specs.Str.{bytes_eq}
 use Rattle.std.specs.FinMap.{find, is_sorted}
 use Rattle.std.specs.FinMap.Entries.{by_order}
-use Rattle.nl_types.specs.Paths.{Path, path_cmp}
+use Rattle.nl_types.specs.Plain.Paths.{Path, path_cmp}
 use Rattle.nl_folders.specs.declared.differences.Difference.{Difference}
 use Rattle.nl_folders.specs.declared.differences.Difference.TheVariants as nodes
 use Rattle.nl_folders.specs.Differences.{Differences}

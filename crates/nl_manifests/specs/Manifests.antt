@@ -4,8 +4,8 @@ use Rattle.std.specs.Char.{is_ascii_alphanumeric}
 use Rattle.std.specs.Fmt.{decimal}
 use Rattle.std.specs.List.{list_all, list_any, flat_map}
 use Rattle.std.specs.Ordering.{is_lt}
-use Rattle.nl_types.specs.Characters.{dot, line_feed}
-use Rattle.nl_types.specs.Paths.{name_cmp}
+use Rattle.nl_types.specs.Plain.Characters.{dot, line_feed}
+use Rattle.nl_types.specs.Plain.Paths.{name_cmp}
 use Rattle.nl_manifests.specs.declared.attributes.Time.{Time}
 use Rattle.nl_manifests.specs.declared.attributes.Attributes.{Attributes}
 use Rattle.nl_manifests.specs.declared.manifest.LineKind.{LineKind}

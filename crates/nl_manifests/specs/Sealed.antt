@@ -4,9 +4,9 @@ use Rattle.std.specs.FinMap.{find, is_sorted}
 use Rattle.std.specs.List.{flat_map, list_all}
 use Rattle.nl_types.specs.declared.reply.Node.{Node}
 use Rattle.nl_types.specs.declared.reply.Node.TheVariants.{Dir, File}
-use Rattle.nl_types.specs.Limits.{file_limit, path_limit}
-use Rattle.nl_types.specs.Paths.{Name, Path, is_name, path_cmp, same_name}
-use Rattle.nl_types.specs.Trees.{Tree, lookup, name_below}
+use Rattle.nl_types.specs.Plain.Limits.{file_limit, path_limit}
+use Rattle.nl_types.specs.Plain.Paths.{Name, Path, is_name, path_cmp, same_name}
+use Rattle.nl_types.specs.Plain.Trees.{Tree, lookup, name_below}
 use Rattle.nl_manifests.specs.declared.attributes.Attributes.{Attributes}
 use Rattle.nl_manifests.specs.declared.manifest.LineKind.{LineKind}
 use Rattle.nl_manifests.specs.declared.manifest.LineKind.TheVariants as kind

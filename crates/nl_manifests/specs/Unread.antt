@@ -3,8 +3,8 @@ use Rattle.std.specs.Prelude.{◌≡◌, if◌then◌else◌, IsTrue, [], map}
 use Rattle.std.specs.FinMap.{is_sorted}
 use Rattle.nl_types.specs.declared.reply.Node.{Node}
 use Rattle.nl_types.specs.declared.reply.Node.TheVariants.{Dir, File}
-use Rattle.nl_types.specs.Paths.{Name, Path, path_cmp, same_name}
-use Rattle.nl_types.specs.Trees.{Tree}
+use Rattle.nl_types.specs.Plain.Paths.{Name, Path, path_cmp, same_name}
+use Rattle.nl_types.specs.Plain.Trees.{Tree}
 use Rattle.nl_folders.specs.Differences.{differences}
 use Rattle.nl_manifests.specs.HostDifferences.{differences_by, host_differences, told_by}
 use Rattle.nl_manifests.specs.HostTrees.{HostTree, Shows, last_name, manifest_name, parted}

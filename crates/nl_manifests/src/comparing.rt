@@ -2,7 +2,7 @@
 ghost use Rattle.std.specs.Prelude.{◌≡◌, ◌++◌, [], ◌∷◌, ◌&&◌, not, IfOk, OnOk, Some};
 ghost use Rattle.std.specs.FinMap.{find};
 ghost use Rattle.std.specs.Option.{option_copied};
-ghost use Rattle.nl_types.specs.Paths.{path_cmp};
+ghost use Rattle.nl_types.specs.Plain.Paths.{path_cmp};
 ghost use Rattle.nl_manifests.specs.HostDifferences.{are_alike, differences_by, entry_difference, is_of_bytes, node_difference, or_changed, told, told_by, unless};
 ghost use Rattle.nl_manifests.specs.Private.Comparing.{TellsFirst, TellsNext};
 

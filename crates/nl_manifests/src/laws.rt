@@ -6,7 +6,7 @@ ghost use Rattle.nl_manifests.specs.Readings.{ManifestsArePrinted};
 ghost use Rattle.nl_manifests.specs.Sealed.{SealedTreesOpen};
 ghost use Rattle.nl_manifests.specs.Unread.{DifferencesNeedNoBytes};
 
-use nl_folders::laws::differences_are_exact;
+use nl_folders::laws;
 
 /// A file has a manifest exactly where its bytes are those that this manifest is printed as. So there is one
 /// at most.
@@ -42,6 +42,6 @@ pub fn folders_are_host_trees()
 pub fn differences_need_no_bytes()
     ensures { DifferencesNeedNoBytes }
 {
-    differences_are_exact();
+    laws::differences_are_exact();
     trees_show_one();
 }

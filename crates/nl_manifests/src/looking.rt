@@ -3,7 +3,7 @@ ghost use Rattle.std.specs.Prelude.{◌≡◌, ◌-◌, ◌<◌, ◌≤◌, drop
 ghost use Rattle.std.specs.FinMap.{find, is_sorted};
 ghost use Rattle.std.specs.Option.{option_copied};
 ghost use Rattle.std.specs.Ordering.{is_lt};
-ghost use Rattle.nl_types.specs.Paths.{name_cmp, path_cmp};
+ghost use Rattle.nl_types.specs.Plain.Paths.{name_cmp, path_cmp};
 ghost use Rattle.nl_manifests.specs.HostTrees.{line_named};
 ghost use Rattle.nl_manifests.specs.Private.Looking.{IsLineSpan, first_named, rising};
 ghost use Rattle.nl_manifests.specs.Manifests.{IsManifest, ascend};

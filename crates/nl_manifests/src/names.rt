@@ -1,8 +1,8 @@
 //! Names and paths in a directory.
 ghost use Rattle.std.specs.Prelude.{◌≡◌};
 ghost use Rattle.std.specs.Option.{option_copied};
-ghost use Rattle.nl_types.specs.Paths.{same_name};
-ghost use Rattle.nl_types.specs.Trees.{name_below};
+ghost use Rattle.nl_types.specs.Plain.Paths.{same_name};
+ghost use Rattle.nl_types.specs.Plain.Trees.{name_below};
 ghost use Rattle.nl_manifests.specs.HostTrees.{manifest_name};
 
 use nl_folders::Name;

@@ -2,9 +2,9 @@
 ghost use Rattle.std.specs.Prelude.{◌≡◌, ◌++◌, [], ◌&&◌, IfOk, OnOk, Some, None, is_some, option_and_then};
 ghost use Rattle.std.specs.Option.{option_copied};
 ghost use Rattle.std.specs.List.{flat_map};
-ghost use Rattle.nl_types.specs.Paths.{same_name};
+ghost use Rattle.nl_types.specs.Plain.Paths.{same_name};
 ghost use Rattle.nl_types.specs.declared.reply.Node.TheVariants.{File};
-ghost use Rattle.nl_types.specs.Trees.{IsTree};
+ghost use Rattle.nl_types.specs.Plain.Trees.{IsTree};
 ghost use Rattle.nl_manifests.specs.HostTrees.{Shows, line_in, manifest_at, last_name, manifest_for, manifest_name, parted, refused, shown_directory, shown_file, shown_in, shown_link, told_of_file};
 ghost use Rattle.nl_manifests.specs.Readings.{manifest_in};
 ghost use Rattle.nl_manifests.specs.Private.Opening.{above_in, entry_if, link_part, links_part, manifest_entry, manifests, node_part, parts};

@@ -2,7 +2,7 @@
 ghost use Rattle.std.specs.Prelude.{◌≡◌, ◌++◌, IfOk, OnOk};
 ghost use Rattle.std.specs.List.{flat_map};
 ghost use Rattle.std.specs.Option.{option_copied};
-ghost use Rattle.nl_types.specs.Trees.{lookup};
+ghost use Rattle.nl_types.specs.Plain.Trees.{lookup};
 ghost use Rattle.nl_manifests.specs.HostTrees.{fault_at, fault_of, one_if, refused_line};
 ghost use Rattle.nl_manifests.specs.Private.Opening.{refused_lines};
 

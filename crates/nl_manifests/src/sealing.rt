@@ -2,7 +2,7 @@
 ghost use Rattle.std.specs.Prelude.{◌≡◌, ◌++◌, [], IfErr, IfOk, OnOk};
 ghost use Rattle.std.specs.List.{list_all};
 ghost use Rattle.std.specs.Option.{option_copied};
-ghost use Rattle.nl_types.specs.Trees.{IsTree};
+ghost use Rattle.nl_types.specs.Plain.Trees.{IsTree};
 ghost use Rattle.nl_manifests.specs.HostTrees.{Shows, refused};
 ghost use Rattle.nl_manifests.specs.Sealed.{IsSealed, RefusesSealing, is_small, is_within_limits, line_under};
 ghost use Rattle.nl_manifests.specs.Private.Places.{Puts, PutsIfOrdered};
@@ -15,14 +15,12 @@ use crate::names::name_below;
 use crate::ordered::put;
 use crate::printing::printed;
 use nl_folders::{Name, Path, Tree, begins_with, copied, with_name};
+use nl_types::limits::{FILE_LIMIT, PATH_LIMIT};
 use nl_types::{Items, Node};
 use std::alloc::{AllocError, AllocFailed, Global};
 
-/// The most bytes of a file.
-const FILE_LIMIT: usize = 67_108_864;
-
 /// The most paths of a tree, the root's included.
-const MOST_PATHS: usize = 524_278;
+const MOST_PATHS: usize = PATH_LIMIT + 1;
 
 /// Why a tree of the host isn't sealed.
 #[derive(Clone, Copy, Debug, PartialEq, Eq)]
@@ -186,7 +184,7 @@ fn is_small(node: &Node) -> bool
 {
     match node {
         Node::Dir => true,
-        Node::File(bytes) => bytes.len() <= FILE_LIMIT,
+        Node::File(bytes) => bytes.len() <= FILE_LIMIT as usize,
     }
 }
 

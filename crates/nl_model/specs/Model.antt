@@ -3,10 +3,10 @@ use Rattle.std.specs.Prelude.{if◌then◌else◌, Ok, Err}
 use Rattle.nl_types.specs.declared.event.Event.{Event}
 use Rattle.nl_types.specs.declared.reply.Answer.TheVariants as answer
 use Rattle.nl_types.specs.declared.reply.Node.{Node}
-use Rattle.nl_types.specs.Paths.{Path, same_path}
-use Rattle.nl_types.specs.Trees.{Tree, lookup, move_subtree}
-use Rattle.nl_types.specs.Calls.{Changed, and_then, may_replace}
-use Rattle.nl_types.specs.Worlds.{World, Reply, step, IsDoneUnlessMemory}
+use Rattle.nl_types.specs.Plain.Paths.{Path, same_path}
+use Rattle.nl_types.specs.Plain.Trees.{Tree, lookup, move_subtree}
+use Rattle.nl_types.specs.Plain.Calls.{Changed, and_then, may_replace}
+use Rattle.nl_types.specs.Plain.Worlds.{World, Reply, step, IsDoneUnlessMemory}
 
 -- what a volume may answer to a move or a retirement
 abbrev pub cleaned_by : Reply → Reply

@@ -1,6 +1,6 @@
 //! The bytes of files.
 ghost use Rattle.std.specs.Prelude.{◌≡◌, ◌+◌, ◌^◌, ◌<◌, take, drop, length, IfOk};
-ghost use Rattle.nl_types.specs.Calls.{overwritten, resized};
+ghost use Rattle.nl_types.specs.Plain.Calls.{overwritten, resized};
 
 use nl_types::Items;
 use std::alloc::{AllocError, Global};

@@ -1,21 +1,16 @@
 //! The file calls, each as a function from a tree to an answer and the next tree.
 ghost use Rattle.std.specs.Prelude.{◌≡◌, []};
 ghost use Rattle.nl_types.specs.declared.reply.Node.TheVariants.{File};
-ghost use Rattle.nl_types.specs.Paths.{path_of};
-ghost use Rattle.nl_types.specs.Calls.{IsUnlessMemory, and_then, create, mkdir, write, truncate, read};
+ghost use Rattle.nl_types.specs.Plain.Paths.{path_of};
+ghost use Rattle.nl_types.specs.Plain.Calls.{IsUnlessMemory, and_then, create, mkdir, write, truncate, read};
 
 use crate::bytes::{part, with_over, with_size};
 use crate::path::{Name, Path, parse};
 use crate::tree::{Tree, copy, find, with, with_file};
 use crate::walks::{file, walk_to};
+use nl_types::limits::{FILE_LIMIT, PATH_LIMIT};
 use nl_types::{Answer, Items, Node, Reply, VolError};
 use std::alloc::Global;
-
-/// The most bytes of a file.
-const FILE_LIMIT: u64 = 67_108_864;
-
-/// The most paths beside the root.
-const PATH_LIMIT: usize = 524_277;
 
 /// What a change answers, and the tree that it leaves.
 pub type Changed = Result<(Answer, Tree), VolError>;

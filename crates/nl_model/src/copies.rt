@@ -4,8 +4,8 @@ ghost use Rattle.std.specs.Option.{option_copied, option_map};
 ghost use Rattle.std.specs.Ordering.{nat_cmp};
 ghost use Rattle.std.specs.FinMap.{find};
 ghost use Rattle.nl_types.specs.declared.event.Mode.TheVariants.{Plain};
-ghost use Rattle.nl_types.specs.NumberLists.{is_one_of};
-ghost use Rattle.nl_types.specs.Worlds.{Copy, greatest, greatest_stamp, numbers, copies_with_mode, copies_without};
+ghost use Rattle.nl_types.specs.Plain.NumberLists.{is_one_of};
+ghost use Rattle.nl_types.specs.Plain.Worlds.{Copy, greatest, greatest_stamp, numbers, copies_with_mode, copies_without};
 
 use crate::tree::{self, Tree};
 use nl_types::{CheckpointNumber, Items, Mode};
@@ -28,7 +28,7 @@ pub struct Kept {
 }
 
 impl Model for Kept {
-    ghost use Rattle.nl_types.specs.Worlds.{Copy};
+    ghost use Rattle.nl_types.specs.Plain.Worlds.{Copy};
 
     ghost Value = { Copy };
 

@@ -1,8 +1,8 @@
 //! The file calls that remove and move what directories have, and those that show it.
 ghost use Rattle.std.specs.Prelude.{◌≡◌, ◌&&◌};
-ghost use Rattle.nl_types.specs.Paths.{path_of};
-ghost use Rattle.nl_types.specs.Trees.{lookup};
-ghost use Rattle.nl_types.specs.Calls.{IsUnlessMemory, and_then, is_dir, unlink, rmdir, may_replace, is_above, rename, list, stat_of, stat};
+ghost use Rattle.nl_types.specs.Plain.Paths.{path_of};
+ghost use Rattle.nl_types.specs.Plain.Trees.{lookup};
+ghost use Rattle.nl_types.specs.Plain.Calls.{IsUnlessMemory, and_then, is_dir, unlink, rmdir, may_replace, is_above, rename, list, stat_of, stat};
 ghost use Rattle.nl_model.specs.Model.{rename_onto};
 
 use crate::calls::Changed;

@@ -1,7 +1,7 @@
 //! What is asked of a tree, by the call that does it.
 ghost use Rattle.std.specs.Prelude.{◌≡◌, Ok};
-ghost use Rattle.nl_types.specs.Paths.{path_of};
-ghost use Rattle.nl_types.specs.Calls.{IsUnlessMemory, and_then, change, is_dirtying, list, stat, reply_to};
+ghost use Rattle.nl_types.specs.Plain.Paths.{path_of};
+ghost use Rattle.nl_types.specs.Plain.Calls.{IsUnlessMemory, and_then, change, is_dirtying, list, stat, reply_to};
 
 use crate::calls::{Changed, create, mkdir, read, truncate, write};
 use crate::dirs::{list, rename, rmdir, stat, unlink};

@@ -1,7 +1,7 @@
 //! The boundary of protection, and the checkpoints that an expiry takes out.
 ghost use Rattle.std.specs.Prelude.{◌≡◌, IfOk, map};
-ghost use Rattle.nl_types.specs.Rows.{number_of};
-ghost use Rattle.nl_types.specs.Protection as protection;
+ghost use Rattle.nl_types.specs.Plain.Rows.{number_of};
+ghost use Rattle.nl_types.specs.Plain.Protection as protection;
 
 use crate::judging::reason_to_stay;
 use nl_types::{CheckpointNumber, Items, Row};

@@ -1,9 +1,9 @@
 //! What is told of kept checkpoints, and how they are judged by it.
 ghost use Rattle.std.specs.Prelude.{◌≡◌, IfOk, map};
 ghost use Rattle.std.specs.List.{list_any};
-ghost use Rattle.nl_types.specs.Calls.{IsUnlessMemory};
-ghost use Rattle.nl_types.specs.Rows.{find_row, reason_to_stay, removal, is_between, rows_between, judged_range, range_removal};
-ghost use Rattle.nl_types.specs.Worlds.{copy_row};
+ghost use Rattle.nl_types.specs.Plain.Calls.{IsUnlessMemory};
+ghost use Rattle.nl_types.specs.Plain.Rows.{find_row, reason_to_stay, removal, is_between, rows_between, judged_range, range_removal};
+ghost use Rattle.nl_types.specs.Plain.Worlds.{copy_row};
 
 use crate::copies::Kept;
 use nl_types::{CheckpointNumber, Items, Range, Row, Stays, VolError};

@@ -1,4 +1,4 @@
-//! A volume as plain, slow code over whole copied trees, which tests compare other bodies with. It
+//! A volume as plain, slow code over whole copied trees: the definitions as a program, for tests. It
 //! copies the tree at each change and each checkpoint, and recurses over a path's bytes and names
 //! and over the paths, checkpoints and mounts that there are, so it is for small worlds.
 #![tactic(auto)]

@@ -1,7 +1,7 @@
 //! Listings of kept checkpoints.
 ghost use Rattle.std.specs.Prelude.{◌≡◌, IfOk};
 ghost use Rattle.std.specs.List.{filter};
-ghost use Rattle.nl_types.specs.Rows.{is_shown, in_direction, listing};
+ghost use Rattle.nl_types.specs.Plain.Rows.{is_shown, in_direction, listing};
 
 use nl_types::{Items, ListOptions, Row};
 use std::alloc::{AllocError, Global};

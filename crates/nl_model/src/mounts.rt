@@ -2,7 +2,7 @@
 ghost use Rattle.std.specs.Prelude.{◌≡◌, IfOk};
 ghost use Rattle.std.specs.Ordering.{nat_cmp};
 ghost use Rattle.std.specs.FinMap.{find};
-ghost use Rattle.nl_types.specs.Worlds.{is_mounted, mounts_without};
+ghost use Rattle.nl_types.specs.Plain.Worlds.{is_mounted, mounts_without};
 
 use nl_types::{CheckpointNumber, Items, MountNumber};
 use std::alloc::{AllocError, Global};

@@ -1,8 +1,8 @@
 //! Paths as lists of names.
 ghost use Rattle.std.specs.Prelude.{◌≡◌, ◌==◌, ◌≤◌, [], ◌∷◌, ◌++◌, if◌then◌else◌, true, length, IfOk, OnOk};
 ghost use Rattle.std.specs.List.{slice_split, onto_first, list_all};
-ghost use Rattle.nl_types.specs.Paths.{same_name, path_cmp, is_within, is_name, names_of, path_of};
-ghost use Rattle.nl_types.specs.Calls.{IsUnlessMemory};
+ghost use Rattle.nl_types.specs.Plain.Paths.{same_name, path_cmp, is_within, is_name, names_of, path_of};
+ghost use Rattle.nl_types.specs.Plain.Calls.{IsUnlessMemory};
 
 use nl_types::{Items, VolError};
 use std::alloc::{AllocError, Global};

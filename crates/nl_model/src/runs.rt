@@ -1,6 +1,6 @@
 //! Lists of events, beside a volume.
 ghost use Rattle.std.specs.Prelude.{◌≡◌, IfOk, OnErr};
-ghost use Rattle.nl_types.specs.Runs.{Run};
+ghost use Rattle.nl_types.specs.Plain.Runs.{Run};
 ghost use Rattle.nl_model.specs.Model.{ModelStep};
 
 use crate::world::World;

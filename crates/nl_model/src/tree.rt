@@ -2,8 +2,8 @@
 ghost use Rattle.std.specs.Prelude.{◌≡◌, ◌≤◌, ◌∷◌, ◌++◌, map, length, OnOk, IfOk};
 ghost use Rattle.std.specs.Option.{option_copied};
 ghost use Rattle.nl_types.specs.declared.reply.Node.TheVariants.{File};
-ghost use Rattle.nl_types.specs.Trees.{lookup, insert, remove, root_alone, name_below, node_kind, children, moved_path, move_subtree};
-ghost use Rattle.nl_types.specs.Calls.{named};
+ghost use Rattle.nl_types.specs.Plain.Trees.{lookup, insert, remove, root_alone, name_below, node_kind, children, moved_path, move_subtree};
+ghost use Rattle.nl_types.specs.Plain.Calls.{named};
 
 use crate::path::{Name, Path, begins_with, compare, is_same_name, push_name};
 use nl_types::{Items, Kind, Named, Node};

@@ -1,7 +1,7 @@
 //! What stands at a path of a tree, or why a call is refused there.
 ghost use Rattle.std.specs.Prelude.{◌≡◌};
-ghost use Rattle.nl_types.specs.Trees.{lookup};
-ghost use Rattle.nl_types.specs.Calls.{IsUnlessMemory, ShowsUnlessMemory, ok_unless, stops_walk, stop_from, walk, node_at, file_at, dir_at, is_dir};
+ghost use Rattle.nl_types.specs.Plain.Trees.{lookup};
+ghost use Rattle.nl_types.specs.Plain.Calls.{IsUnlessMemory, ShowsUnlessMemory, ok_unless, stops_walk, stop_from, walk, node_at, file_at, dir_at, is_dir};
 
 use crate::path::{Name, Path, push_name};
 use crate::tree::find;

@@ -1,10 +1,10 @@
 //! The volume: a current tree, whole copies of earlier trees, and mounts of these.
 ghost use Rattle.std.specs.Prelude.{◌≡◌, ◌≢◌, ◌+◌, nat_le, true, false, IfErr, IfOk, Ok, OnOk, OnErr};
-ghost use Rattle.nl_types.specs.Limits.{checkpoint_number_limit};
+ghost use Rattle.nl_types.specs.Plain.Limits.{checkpoint_number_limit};
 ghost use Rattle.nl_types.specs.declared.reply.Answer.TheVariants.{Rows};
-ghost use Rattle.nl_types.specs.Calls.{IsUnlessMemory};
-ghost use Rattle.nl_types.specs.Rows.{listing};
-ghost use Rattle.nl_types.specs.Worlds.{formatted, rows, apply_change, checkpoint, is_moving, latest, move_blocks, with_minor, change_mode, take_out, remove, remove_range, expire, mount, unmount, mount_read, IsDoneUnlessMemory};
+ghost use Rattle.nl_types.specs.Plain.Calls.{IsUnlessMemory};
+ghost use Rattle.nl_types.specs.Plain.Rows.{listing};
+ghost use Rattle.nl_types.specs.Plain.Worlds.{formatted, rows, apply_change, checkpoint, is_moving, latest, move_blocks, with_minor, change_mode, take_out, remove, remove_range, expire, mount, unmount, mount_read, IsDoneUnlessMemory};
 ghost use Rattle.nl_model.specs.Model.{ModelStep, cleaned_by};
 
 use crate::copies::{
@@ -36,7 +36,7 @@ pub struct World {
 }
 
 impl Model for World {
-    ghost use Rattle.nl_types.specs.Worlds.{World as Volume};
+    ghost use Rattle.nl_types.specs.Plain.Worlds.{World as Volume};
 
     ghost Value = { Volume };
 

@@ -4,8 +4,8 @@ use Rattle.std.proofs.lemmas.List.{drop-drop, drop_at, length-drop, length-take,
 use borrow.Rule.Slice.PartMut.{put_mid}
 use Rattle.std.specs.Prelude.{IfOk}
 use Rattle.nl_types.specs.declared.error.VolError.{VolError}
-use Rattle.nl_types.specs.Trees.{Tree}
-use Rattle.nl_commit.specs.Commits.{image_of}
+use Rattle.nl_types.specs.Plain.Trees.{Tree}
+use Rattle.nl_commit.specs.Commits.{shown_after}
 use Rattle.nl_publish.specs.Mounts.{Claim}
 use Rattle.nl_publish.specs.Told.{TreeOn}
 use Rattle.nl_publish.specs.Histories.{Known}
@@ -114,7 +114,7 @@ none_read t path offset was found =
 -- what was read of the file, where it was read at all
 pub was_read : (m : Claim) (t : Tree) (path : List ℕ) (offset more : ℕ) (was now : List ℕ)
     → Told m (IsNotRead (Ok more) was now) (λ t. IsFileRead t path offset was (Ok more) now)
-    → TreeOn (image_of m.told.commits) m.checkpoint t
+    → TreeOn (shown_after m.told.commits) m.checkpoint t
     → IsFileRead t path offset was (Ok more) now
 was_read m t path offset more was now told on = elim (told t on) [
   | inl none ↦ absurd (cc none.refused)
@@ -142,7 +142,7 @@ pub part_more : (m : Claim) (path : List ℕ) (offset count len k : ℕ) (into p
     → k ≡ len → count + len ≤ length into
     → Told m (IsNotRead result (take k (drop count into)) part)
     (λ t. IsFileRead t path (offset + count) (take k (drop count into)) result part)
-    → IfOk result (λ more. (t : Tree) (was : List ℕ) → TreeOn (image_of m.told.commits) m.checkpoint t
+    → IfOk result (λ more. (t : Tree) (was : List ℕ) → TreeOn (shown_after m.told.commits) m.checkpoint t
     → IsReadUpTo t path offset was count into
     → HasReadMore t path offset was count len more (put_mid count k into part))
 part_more m path offset count len k into part (Err e) same room told = tt

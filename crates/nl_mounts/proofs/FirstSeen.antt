@@ -2,7 +2,7 @@
 use Rattle.std.proofs.Common.{◌≡◌, ℕ, zero, suc, List, [], ◌∷◌, ◌++◌, arith, ap, sym, subst, ◌∙◌}
 use Rattle.std.specs.Prelude.{All, map}
 use Rattle.nl_types.specs.declared.event.Event.{Event}
-use Rattle.nl_types.specs.Worlds.{Reply}
+use Rattle.nl_types.specs.Plain.Worlds.{Reply}
 use Rattle.nl_publish.specs.Histories.{Known}
 use Rattle.nl_publish.specs.Locks.{HeldPen, Ran, told_by}
 use Rattle.nl_publish.specs.Locks as locks

@@ -6,11 +6,11 @@ use mathlib.Core.Option.{some, some-injective}
 use mathlib.Core.List.{IsPrefix}
 use lib.ListN.{get_elem?}
 use Rattle.crossbeam_utils.specs.Register.{Turns}
-use Rattle.nl_types.specs.Roots.{Pages}
-use Rattle.nl_types.specs.Trees.{Tree}
+use Rattle.nl_types.specs.Blocks.Roots.{Pages}
+use Rattle.nl_types.specs.Plain.Trees.{Tree}
 use Rattle.nl_cpfile.specs.Tables.{kept_at, checkpoint_root}
 use Rattle.nl_cpfile.specs.declared.checkpoint.Checkpoint.{Checkpoint}
-use Rattle.nl_commit.specs.Commits.{IsHistory, IsImage, image_of}
+use Rattle.nl_commit.specs.Commits.{IsHistory, IsShownImage, shown_after}
 use Rattle.nl_commit.specs.Means.{RootMeans}
 use Rattle.nl_commit.specs.Shown.{Shown, mounted_on, pages_shown}
 use Rattle.nl_publish.specs.declared.image.Image.{Image}
@@ -80,13 +80,13 @@ module _ (m : Claim) (old new : Known) (i : Image) (images : HistoriesShowImages
   history : IsHistory new.commits
   history = subst IsHistory (sym log) whole.history
 
-  shown : i.tables ≡ image_of new.commits
-  shown = whole.shown ∙ ap image_of (sym log)
+  shown : i.tables ≡ shown_after new.commits
+  shown = whole.shown ∙ ap shown_after (sym log)
 
-  image : IsImage i.tables
-  image = subst IsImage (sym shown) (images new.commits history)
+  image : IsShownImage i.tables
+  image = subst IsShownImage (sym shown) (images new.commits history)
 
-  lacks : None ≡ mounted_tree i.tables m.number → mounted_on (image_of new.commits) m.number ≡ None
+  lacks : None ≡ mounted_tree i.tables m.number → mounted_on (shown_after new.commits) m.number ≡ None
   lacks is = subst (λ (x : Shown). mounted_on x m.number ≡ None) shown
       (lacks_tree (mounted_on i.tables m.number) (λ n. kept_at n i.tables.table)
       (λ n at. let c = image.mounted m.number n at in (c.0, c.1)) (sym is))
@@ -96,9 +96,9 @@ module _ (m : Claim) (old new : Known) (i : Image) (images : HistoriesShowImages
       → mounted_on i.tables m.number ≡ Some n → kept_at n i.tables.table ≡ Some c
       → IsMountTree m old new i.tables (tree_of n c)
   shows n c made mounted_was kept_was =
-      let mounted : mounted_on (image_of new.commits) m.number ≡ Some n =
+      let mounted : mounted_on (shown_after new.commits) m.number ≡ Some n =
       subst (λ (x : Shown). mounted_on x m.number ≡ Some n) shown mounted_was in
-      let means : (t : Tree) → TreeOn (image_of new.commits) n t
+      let means : (t : Tree) → TreeOn (shown_after new.commits) n t
       → RootMeans (pages_shown i.tables) (checkpoint_root c) t =
       λ t tree. means_root i.tables n c t kept_was (subst (λ (x : Shown). TreeOn x n t) (sym shown) tree) in
       record {

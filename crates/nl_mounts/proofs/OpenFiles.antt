@@ -6,10 +6,10 @@ use Rattle.nl_types.specs.declared.error.VolError.{VolError}
 use Rattle.nl_types.specs.declared.error.VolError.TheVariants.{BadMount}
 use Rattle.nl_types.specs.declared.reply.Answer.{Answer}
 use Rattle.nl_types.specs.declared.reply.Answer.TheVariants as answer
-use Rattle.nl_types.specs.Calls.{and_then, file_at, read}
-use Rattle.nl_types.specs.Paths.{Path, path_of}
-use Rattle.nl_types.specs.Roots.{Pages}
-use Rattle.nl_types.specs.Trees.{Tree}
+use Rattle.nl_types.specs.Plain.Calls.{and_then, file_at, read}
+use Rattle.nl_types.specs.Plain.Paths.{Path, path_of}
+use Rattle.nl_types.specs.Blocks.Roots.{Pages}
+use Rattle.nl_types.specs.Plain.Trees.{Tree}
 use Rattle.nl_layout.specs.Root.{root_of}
 use Rattle.nl_layout.specs.declared.root.Root.{Root}
 use Rattle.nl_tree.specs.Held.{Holding}
@@ -17,7 +17,7 @@ use Rattle.nl_tree.specs.Reading.{ArePartOf, HoldingMeans, as_file, link_at}
 use Rattle.nl_tree.specs.Facts.ReadingCalls.{read_bytes, read_file, read_refused}
 use Rattle.nl_files.specs.CheckpointTrees.{HoldsTree}
 use Rattle.nl_cpfile.specs.Tables.{kept_at, checkpoint_root}
-use Rattle.nl_commit.specs.Commits.{IsHistory, image_of}
+use Rattle.nl_commit.specs.Commits.{IsHistory, shown_after}
 use Rattle.nl_commit.specs.Shown.{Shown, pages_shown}
 use Rattle.nl_publish.specs.Histories.{IsBegun, Known}
 use Rattle.nl_publish.specs.KeptHoldings.{HoldsOn}
@@ -43,21 +43,21 @@ begun (c ∷ log) history = history
 
 module _ (m : Claim) (old new : Known) (x : Shown) (t : MountedTree) (claim : IsClaim m)
     (told_begun : IsBegun m.told.commits) (history : IsHistory new.commits) (at : IsMountTree m old new x t) where
-  told : IsHistory m.told.commits × ((held : Holding) × HoldsOn (image_of m.told.commits) m.checkpoint held)
+  told : IsHistory m.told.commits × ((held : Holding) × HoldsOn (shown_after m.told.commits) m.checkpoint held)
   told = mounts_hold m claim told_begun
 
-  kept : kept_at m.checkpoint (image_of new.commits).table ≡ Some at.checkpoint
-  kept = subst (λ (n : ℕ). kept_at n (image_of new.commits).table ≡ Some at.checkpoint) at.is_own at.kept
+  kept : kept_at m.checkpoint (shown_after new.commits).table ≡ Some at.checkpoint
+  kept = subst (λ (n : ℕ). kept_at n (shown_after new.commits).table ≡ Some at.checkpoint) at.is_own at.kept
 
   -- it holds the same in both images
-  same : (held now : Holding) → HoldsOn (image_of m.told.commits) m.checkpoint held
-      → HoldsOn (image_of new.commits) m.checkpoint now → now ≡ held
+  same : (held now : Holding) → HoldsOn (shown_after m.told.commits) m.checkpoint held
+      → HoldsOn (shown_after new.commits) m.checkpoint now → now ≡ held
   same held now =
       kept_holdings_stay m.told.commits new.commits m.checkpoint held now told.0 (begun new.commits history)
       at.made
 
   on_tree : (held : Holding) → HoldsTree (pages_shown x) (root_of t.root) held
-      → HoldsOn (image_of new.commits) m.checkpoint held
+      → HoldsOn (shown_after new.commits) m.checkpoint held
   on_tree held holds = record {
     checkpoint = at.checkpoint;
     kept = kept;
@@ -78,12 +78,12 @@ module _ (m : Claim) (old new : Known) (x : Shown) (t : MountedTree) (claim : Is
       )
 
   back : (held : Holding) → HoldsTree (pages_shown x) (root_of t.root) held
-      → HoldsOn (image_of m.told.commits) m.checkpoint held
+      → HoldsOn (shown_after m.told.commits) m.checkpoint held
   back held holds =
-      subst (HoldsOn (image_of m.told.commits) m.checkpoint) (sym (same told.1.0 held told.1.1 (on_tree held holds)))
+      subst (HoldsOn (shown_after m.told.commits) m.checkpoint) (sym (same told.1.0 held told.1.1 (on_tree held holds)))
       told.1.1
 
-  on : (held : Holding) → HoldsOn (image_of m.told.commits) m.checkpoint held
+  on : (held : Holding) → HoldsOn (shown_after m.told.commits) m.checkpoint held
       → HoldsTree (pages_shown x) (root_of t.root) held
   on held was =
       subst (HoldsTree (pages_shown x) (root_of t.root)) (same held here.0 was (on_tree here.0 here.1)) here.1
@@ -194,7 +194,7 @@ not_opened A held t means path e link =
 -- ---- what an open file has
 
 pub open_bytes : (m : Claim) (path : List ℕ) (i : ℕ) → IsFileOf m path i
-    → (t : Tree) → TreeOn (image_of m.told.commits) m.checkpoint t
+    → (t : Tree) → TreeOn (shown_after m.told.commits) m.checkpoint t
     → (bytes : List ℕ) × (bytes_at t path ≡ Ok bytes)
 open_bytes m path i file t on =
     let held = on.means.held in

@@ -4,7 +4,7 @@ use Rattle.std.specs.Prelude.{◌%◌, min}
 use Rattle.std.proofs.lemmas.Bool.{cases_lt}
 use Rattle.std.proofs.lemmas.List.{length-drop, length-take}
 use borrow.Rule.Slice.PartMut.{put_mid}
-use Rattle.nl_types.specs.Roots.{Blocks}
+use Rattle.nl_types.specs.Blocks.Roots.{Blocks}
 use Rattle.nl_tree.specs.Bytes.{byte_written}
 use Rattle.nl_tree.specs.Contents.{byte_in}
 use Rattle.nl_tree.specs.Held.{byte_stored}

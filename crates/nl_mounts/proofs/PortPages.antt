@@ -5,14 +5,14 @@ use Rattle.lru.specs.LruCache.{lru_cache}
 use Rattle.lru.proofs.Splits.{Contains-nil}
 use Rattle.nl_types.specs.declared.error.VolError.{VolError}
 use Rattle.nl_types.specs.declared.error.VolError.TheVariants.{BadMount}
-use Rattle.nl_types.specs.Roots.{Pages}
-use Rattle.nl_types.specs.Trees.{Tree}
+use Rattle.nl_types.specs.Blocks.Roots.{Pages}
+use Rattle.nl_types.specs.Plain.Trees.{Tree}
 use Rattle.nl_layout.specs.Root.{root_of}
 use Rattle.nl_layout.specs.declared.root.Root.{Root}
 use Rattle.nl_tree.specs.Held.{Holding}
 use Rattle.nl_files.specs.CheckpointTrees.{HoldsTree}
 use Rattle.nl_cpfile.specs.Tables.{kept_at, checkpoint_root}
-use Rattle.nl_commit.specs.Commits.{IsHistory, image_of}
+use Rattle.nl_commit.specs.Commits.{IsHistory, shown_after}
 use Rattle.nl_commit.specs.Shown.{Shown, pages_shown}
 use Rattle.nl_commit.specs.declared.commit.Commit.{Commit}
 use Rattle.nl_publish.specs.Cached.{IsCachedPage}
@@ -80,22 +80,22 @@ module _ (m : Claim) (old new : Known) (x : Shown) (t : MountedTree) (at : IsMou
       → HasCachedBlocks c t.checkpoint held
   blocks_of c each held holds inode index page has =
       (each (key_of t.checkpoint inode index) page has).block at.checkpoint held at.kept
-      (holds_at x (image_of new.commits) t.root (checkpoint_root at.checkpoint) held at.shown
+      (holds_at x (shown_after new.commits) t.root (checkpoint_root at.checkpoint) held at.shown
       (sym at.root) holds)
 
   of_mount_file : (path : List ℕ) (P : ℕ → Holding → ℕ → Type 0)
       → OfHeldFile (HoldsTree (pages_shown x) (root_of t.root)) t.checkpoint path P
-      → OfMountFile (image_of new.commits) m.number path P
+      → OfMountFile (shown_after new.commits) m.number path P
   of_mount_file path P all n c mounted kept held inode holds found_file =
       let mounted_at = at.mounted in let kept_now = at.kept in
       let same : t.checkpoint ≡ n = cc (mounted, mounted_at) in
-      let kept_here : kept_at t.checkpoint (image_of new.commits).table ≡ Some c =
-      subst (λ (k : ℕ). kept_at k (image_of new.commits).table ≡ Some c) (sym same) kept in
+      let kept_here : kept_at t.checkpoint (shown_after new.commits).table ≡ Some c =
+      subst (λ (k : ℕ). kept_at k (shown_after new.commits).table ≡ Some c) (sym same) kept in
       let checkpoint : c ≡ at.checkpoint = cc (kept_here, kept_now) in
       let root : checkpoint_root c ≡ t.root = ap checkpoint_root checkpoint ∙ at.root in
       subst (λ (k : ℕ). P k held inode) same
       (all held inode
-      (holds_at (image_of new.commits) x (checkpoint_root c) t.root held (sym at.shown) root holds)
+      (holds_at (shown_after new.commits) x (checkpoint_root c) t.root held (sym at.shown) root holds)
       found_file)
 
   -- a block of a file of the tree is a page that may be kept
@@ -104,7 +104,7 @@ module _ (m : Claim) (old new : Known) (x : Shown) (t : MountedTree) (at : IsMou
       → IsCachedPage new.commits key.checkpoint key.inode key.index page
   stored_page history key page stored =
       let image = history_image new.commits history in
-      let table = (image_of new.commits).table in
+      let table = (shown_after new.commits).table in
       subst (λ (n : ℕ). IsCachedPage new.commits n key.inode key.index page) (sym stored.checkpoint) (record {
         history = history;
         given = kept_low table.earlier table.latest image.table.rising t.checkpoint at.checkpoint at.kept;
@@ -112,7 +112,7 @@ module _ (m : Claim) (old new : Known) (x : Shown) (t : MountedTree) (at : IsMou
             let kept_now = at.kept in
             let same : c ≡ at.checkpoint = cc (kept, kept_now) in
             stored.block held
-            (holds_at (image_of new.commits) x (checkpoint_root c) t.root held (sym at.shown)
+            (holds_at (shown_after new.commits) x (checkpoint_root c) t.root held (sym at.shown)
             (ap checkpoint_root same ∙ at.root) holds);
       })
 
@@ -242,7 +242,7 @@ module _ (m : Claim) (old new : Known) (x : Shown) (tree : Option MountedTree) (
   touched_at : (offset : ℕ) (was now : Cache) (result : Result ℕ VolError) → Finds m old new x tree
       → (tree ≡ None → result ≡ Err BadMount)
       → HasTouched (OfTreeFile (pages_shown x) tree path) offset was result now
-      → HasTouched (OfMountFile (image_of new.commits) m.number path) offset was result now
+      → HasTouched (OfMountFile (shown_after new.commits) m.number path) offset was result now
   touched_at offset was now (Err e) finds refused touched =
       record { touched_is = tt; none = touched.none; same = touched.same }
   touched_at offset was now (Ok count) (Lacks volume seen lacks none) refused touched =
@@ -256,7 +256,7 @@ module _ (m : Claim) (old new : Known) (x : Shown) (tree : Option MountedTree) (
   pub touches_at : (offset : ℕ) (was now : Option Cache) (result : Result ℕ VolError) → Finds m old new x tree
       → (tree ≡ None → result ≡ Err BadMount)
       → TouchesIfAny (OfTreeFile (pages_shown x) tree path) offset was result now
-      → TouchesIfAny (OfMountFile (image_of new.commits) m.number path) offset was result now
+      → TouchesIfAny (OfMountFile (shown_after new.commits) m.number path) offset was result now
   touches_at offset None now result finds refused touches = touches
   touches_at offset (Some was) now result finds refused (c, is, touched) =
       (c, is, touched_at offset was c result finds refused touched)
@@ -264,7 +264,7 @@ module _ (m : Claim) (old new : Known) (x : Shown) (tree : Option MountedTree) (
   pub warms_at : (offset len : ℕ) (was now : Cache) (result : Result ℕ VolError) → Finds m old new x tree
       → (tree ≡ None → result ≡ Err BadMount)
       → Warms (OfTreeFile (pages_shown x) tree path) offset len was result now
-      → Warms (OfMountFile (image_of new.commits) m.number path) offset len was result now
+      → Warms (OfMountFile (shown_after new.commits) m.number path) offset len was result now
   warms_at offset len was now result finds refused (Nothing e is same) = Nothing e is same
   warms_at offset len was now result (Lacks volume seen lacks none) refused (Whole count is all) =
       absurd (cc (refused none, is))

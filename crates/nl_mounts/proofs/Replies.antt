@@ -11,21 +11,22 @@ use Rattle.nl_types.specs.declared.reply.Answer.{Answer}
 use Rattle.nl_types.specs.declared.reply.Answer.TheVariants as answer
 use Rattle.nl_types.specs.declared.reply.Node.TheVariants.{File}
 use Rattle.nl_types.specs.declared.row.ListOptions.{ListOptions}
-use Rattle.nl_types.specs.Calls as calls
-use Rattle.nl_types.specs.Calls.{file_at, refuse_if}
-use Rattle.nl_types.specs.Limits.{checkpoint_number_limit, file_limit}
-use Rattle.nl_types.specs.Paths.{Path, path_of}
-use Rattle.nl_types.specs.Rows.{range_removal}
-use Rattle.nl_types.specs.Runs.{Run}
-use Rattle.nl_types.specs.Trees.{Tree, insert}
-use Rattle.nl_types.specs.Worlds.{Outcome, Reply, World, latest, rows, step}
+use Rattle.nl_types.specs.Plain.Calls as calls
+use Rattle.nl_types.specs.Plain.Calls.{file_at, refuse_if}
+use Rattle.nl_types.specs.Plain.Limits.{checkpoint_number_limit, file_limit}
+use Rattle.nl_types.specs.Plain.Paths.{Path, path_of}
+use Rattle.nl_types.specs.Plain.Rows.{range_removal}
+use Rattle.nl_types.specs.Plain.Runs.{Run}
+use Rattle.nl_types.specs.Plain.Trees.{Tree, insert}
+use Rattle.nl_types.specs.Plain.Worlds.{Outcome, Reply, World, latest, rows, step}
 use Rattle.nl_types.specs.Facts.EventCases.{either_gives, refused_if_gives}
 use Rattle.nl_types.specs.Facts.Judgements.{and_then_any, refuse_if_then}
 use Rattle.nl_commit.specs.Layout.{DoesIn, Layout, cleaned}
 use Rattle.nl_commit.specs.Notes.{shared}
 use Rattle.nl_publish.specs.Locks.{Done, HeldPen, IsSoundState, NotBegun, Ran, as_replies, given_back}
 use Rattle.nl_publish.specs.Told.{LockedRunsLeadOn}
-use Rattle.nl_mounts.specs.TypedCalls.{HasDone, IsReplyWith, reply_with}
+use Rattle.nl_calls.specs.Replies.{IsReplyWith, reply_with}
+use Rattle.nl_mounts.specs.TypedCalls.{HasDone}
 use Rattle.nl_mounts.specs.Sharing.{HasRun}
 
 -- ---- the last step of a run

@@ -3,7 +3,7 @@ use Rattle.std.proofs.Common.{◌≡◌, inl, inr, ℕ, zero, suc, ◌+◌, Bool
 use Rattle.std.specs.Prelude.{◌==◌, ◌&&◌}
 use Rattle.std.proofs.lemmas.Bool.{eqb-true}
 use Rattle.lru.proofs.CallerLemmas.{Contains-promoted, Contains-put_entries}
-use Rattle.nl_types.specs.Calls.{and_then}
+use Rattle.nl_types.specs.Plain.Calls.{and_then}
 use Rattle.nl_tree.specs.Held.{Holding, held_block}
 use Rattle.nl_tree.specs.Reading.{as_file, link_at}
 use Rattle.nl_mounts.specs.declared.cache.CacheKey.{CacheKey}

@@ -7,9 +7,9 @@ use Rattle.std.proofs.lemmas.List.{length-take, length-drop}
 use Rattle.std.proofs.lemmas.List.FromFn.{get_or-map-range_with_len, length-map-range_with_len, map-range_with_len_more}
 use Rattle.nl_types.specs.declared.error.VolError.{VolError}
 use Rattle.nl_types.specs.declared.error.VolError.TheVariants.{BadMount}
-use Rattle.nl_types.specs.Calls.{and_then}
-use Rattle.nl_types.specs.Roots.{Blocks, Pages}
-use Rattle.nl_types.specs.Trees.{Tree}
+use Rattle.nl_types.specs.Plain.Calls.{and_then}
+use Rattle.nl_types.specs.Blocks.Roots.{Blocks, Pages}
+use Rattle.nl_types.specs.Plain.Trees.{Tree}
 use Rattle.nl_tree.specs.Contents.{byte_in}
 use Rattle.nl_tree.specs.Held.{Holding, byte_stored, bytes_stored, held_block, held_size}
 use Rattle.nl_tree.specs.Reading.{AreBytesFrom, HoldingMeans, as_file, link_at}

@@ -3,7 +3,7 @@ use Rattle.std.proofs.Common.{◌≡◌, ◌≢◌, List, [], ◌∷◌, ◌++�
 use mathlib.Core.List.{IsPrefix}
 use Rattle.nl_types.specs.declared.event.Event.{Event}
 use Rattle.nl_types.specs.declared.reply.Answer.{Answer}
-use Rattle.nl_commit.specs.Commits.{IsHistory, image_of}
+use Rattle.nl_commit.specs.Commits.{IsHistory, shown_after}
 use Rattle.nl_commit.specs.Shown.{Shown, mounted_on}
 use Rattle.nl_commit.specs.declared.commit.Commit.{Commit}
 use Rattle.nl_commit.specs.declared.commit.Commit.TheVariants as commit
@@ -38,7 +38,7 @@ all_told old new port seen event told answer replied is (Apart other refused non
 -- the history that a mount was told of is one, and shows the mount
 record IsShownMount (m : Claim) : Type 0 where
   history : IsHistory m.told.commits
-  mounted : mounted_on (image_of m.told.commits) m.number ≡ Some m.checkpoint
+  mounted : mounted_on (shown_after m.told.commits) m.number ≡ Some m.checkpoint
 
 shown_mount : (m : Claim) → IsClaim m → IsBegun m.told.commits → IsShownMount m
 shown_mount m claim begun =
@@ -49,9 +49,9 @@ shown_mount m claim begun =
     record {
       history = subst IsHistory (sym claim.1) whole;
       mounted =
-          ap (λ (log : List Commit). mounted_on (image_of log) m.number) claim.1
+          ap (λ (log : List Commit). mounted_on (shown_after log) m.number) claim.1
           ∙ (ap (λ (x : Shown). mounted_on x m.number) new.grown
-          ∙ found_pushed m.number m.checkpoint (image_of claim.0).mounts new.none);
+          ∙ found_pushed m.number m.checkpoint (shown_after claim.0).mounts new.none);
     }
 
 pub mounts_show : PublishedWorldsAreShown → KeptTreesStay → HistoriesShowImages → MountsShowWhatWasTold
@@ -60,7 +60,7 @@ mounts_show worlds stay images port seen event told answer m w copy done replied
     let here = all_told done.old new port seen event told answer replied is done.tells in
     let log : List Commit = new.published in
     let history : IsHistory log = subst IsHistory (sym here.all) done.left.told.history in
-    let tree : TreeOn (image_of log) m.checkpoint copy.tree =
+    let tree : TreeOn (shown_after log) m.checkpoint copy.tree =
     worlds new w done.left.told here.all means m.checkpoint copy found in
     let prefix : IsPrefix log m.told.commits =
     subst (λ (k : Known). IsPrefix k.commits m.told.commits) here.seen_is later.commits in

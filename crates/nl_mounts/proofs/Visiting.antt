@@ -1,6 +1,6 @@
 -- What a call of a port without a mount comes to.
 use Rattle.std.proofs.Common.{◌≡◌, ap, sym, ◌∙◌, subst}
-use Rattle.nl_commit.specs.Commits.{IsHistory, image_of}
+use Rattle.nl_commit.specs.Commits.{IsHistory, shown_after}
 use Rattle.nl_commit.specs.Shown.{Shown}
 use Rattle.nl_publish.specs.declared.image.Image.{Image}
 use Rattle.nl_publish.specs.Histories.{Known}
@@ -13,7 +13,7 @@ pub entered : (old new : Known) (i : Image) → IsWhole i → IsLater old new �
     → HasEntered old new i.tables
 entered old new i whole later log = record {
   seen = record { later = later; history = subst IsHistory (sym log) whole.history };
-  shown = whole.shown ∙ ap image_of (sym log);
+  shown = whole.shown ∙ ap shown_after (sym log);
 }
 
 pub record CameBack (old new : Known) (Ungiven Refused : Type 0) (Answers : Shown → Type 0) : Type 0 where

@@ -7,9 +7,9 @@ use Rattle.lru.specs.LruCache.{lru_cache}
 use Rattle.nl_types.specs.declared.error.VolError.{VolError}
 use Rattle.nl_types.specs.declared.error.VolError.TheVariants.{Memory}
 use Rattle.nl_types.specs.declared.reply.Answer.{Answer}
-use Rattle.nl_types.specs.Calls.{and_then}
-use Rattle.nl_types.specs.Roots.{Blocks}
-use Rattle.nl_types.specs.Trees.{Tree}
+use Rattle.nl_types.specs.Plain.Calls.{and_then}
+use Rattle.nl_types.specs.Blocks.Roots.{Blocks}
+use Rattle.nl_types.specs.Plain.Trees.{Tree}
 use Rattle.nl_tree.specs.Held.{Holding}
 use Rattle.nl_tree.specs.Reading.{HoldingMeans, as_file, link_at}
 use Rattle.nl_tree.specs.Facts.ReadingCalls.{read_bytes}

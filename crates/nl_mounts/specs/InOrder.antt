@@ -2,8 +2,8 @@
 use Rattle.std.specs.Prelude.{◌≡◌, true, Some, Ok}
 use Rattle.nl_types.specs.declared.event.Event.{Event}
 use Rattle.nl_types.specs.declared.reply.Answer.{Answer}
-use Rattle.nl_types.specs.Worlds.{Copy, World, copy_at}
-use Rattle.nl_commit.specs.Commits.{image_of}
+use Rattle.nl_types.specs.Plain.Worlds.{Copy, World, copy_at}
+use Rattle.nl_commit.specs.Commits.{shown_after}
 use Rattle.nl_commit.specs.Layout.{MeansWorld}
 use Rattle.nl_publish.specs.Histories.{IsBegun, Known}
 use Rattle.nl_publish.specs.Mounts.{Claim, IsClaim}
@@ -20,4 +20,4 @@ MountsShowWhatWasTold = (port seen : Known) (event : Event) (told : ToldReply) (
     (w : World) (copy : Copy) (done : HasTold port event told seen)
     → told.reply ≡ Ok answer → told.is_told ≡ true → MeansWorld done.new.layout w
     → copy_at w m.checkpoint ≡ Some copy → IsClaim m → IsBegun m.told.commits → IsLater seen m.told
-    → TreeOn (image_of m.told.commits) m.checkpoint copy.tree
+    → TreeOn (shown_after m.told.commits) m.checkpoint copy.tree

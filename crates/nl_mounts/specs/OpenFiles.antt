@@ -2,15 +2,15 @@
 use Rattle.std.specs.Prelude.{◌≡◌, ◌≢◌, ◌↔◌, ◌-◌, ◌+◌, ◌≤◌, ℕ, min, List, ◌++◌, length, take, drop, IsOk, IfOk, IfSome, IfNone, MatchResult, Option, Some, Result, Ok, Err}
 use Rattle.nl_types.specs.declared.error.VolError.{VolError}
 use Rattle.nl_types.specs.declared.error.VolError.TheVariants.{BadMount}
-use Rattle.nl_types.specs.Calls.{and_then, file_at, read}
-use Rattle.nl_types.specs.Paths.{path_of}
-use Rattle.nl_types.specs.Roots.{Pages}
-use Rattle.nl_types.specs.Trees.{Tree}
+use Rattle.nl_types.specs.Plain.Calls.{and_then, file_at, read}
+use Rattle.nl_types.specs.Plain.Paths.{path_of}
+use Rattle.nl_types.specs.Blocks.Roots.{Pages}
+use Rattle.nl_types.specs.Plain.Trees.{Tree}
 use Rattle.nl_layout.specs.Root.{root_of}
 use Rattle.nl_tree.specs.Held.{Holding}
 use Rattle.nl_tree.specs.Reading.{AreBytesFrom, as_file, link_at}
 use Rattle.nl_files.specs.CheckpointTrees.{HoldsTree}
-use Rattle.nl_commit.specs.Commits.{image_of}
+use Rattle.nl_commit.specs.Commits.{shown_after}
 use Rattle.nl_publish.specs.Histories.{Known}
 use Rattle.nl_publish.specs.KeptHoldings.{HoldsOn}
 use Rattle.nl_publish.specs.Mounts.{Claim}
@@ -30,13 +30,13 @@ pub record FileView : Type 0 where
 
 -- the path leads to a file of this inode, in what the mount's checkpoint held when the mount was told
 abbrev pub IsFileOf : Claim → List ℕ → ℕ → Type 0
-IsFileOf m path i = (held : Holding) → HoldsOn (image_of m.told.commits) m.checkpoint held
+IsFileOf m path i = (held : Holding) → HoldsOn (shown_after m.told.commits) m.checkpoint held
     → Ok i ≡ and_then (link_at held path) as_file
 
 -- the tree that a mount has somewhere holds just what its checkpoint held then
 abbrev pub HoldsAsTold : Claim → Pages → Option MountedTree → Type 0
 HoldsAsTold m pages tree = (t : MountedTree) (held : Holding) → tree ≡ Some t
-    → HoldsTree pages (root_of t.root) held ↔ HoldsOn (image_of m.told.commits) m.checkpoint held
+    → HoldsTree pages (root_of t.root) held ↔ HoldsOn (shown_after m.told.commits) m.checkpoint held
 
 -- the path leads to a file, or the call is refused as the tree says
 abbrev pub IsOpenOf : {A : Type 0} → Tree → List ℕ → Result A VolError → Type 0

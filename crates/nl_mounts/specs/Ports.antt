@@ -9,18 +9,18 @@ use Rattle.nl_types.specs.declared.event.Ask.{Ask}
 use Rattle.nl_types.specs.declared.reply.Answer.TheVariants.{Bytes}
 use Rattle.nl_types.specs.declared.reply.Named.{Named}
 use Rattle.nl_types.specs.declared.reply.Stat.{Stat}
-use Rattle.nl_types.specs.Calls.{IsReadReply, ShowsUnlessMemory, and_then, list, read, reply_to, stat}
-use Rattle.nl_types.specs.Paths.{path_of}
-use Rattle.nl_types.specs.Roots.{Pages}
-use Rattle.nl_types.specs.Trees.{Tree}
-use Rattle.nl_types.specs.Worlds.{Reply}
+use Rattle.nl_types.specs.Plain.Calls.{IsReadReply, ShowsUnlessMemory, and_then, list, read, reply_to, stat}
+use Rattle.nl_types.specs.Plain.Paths.{path_of}
+use Rattle.nl_types.specs.Blocks.Roots.{Pages}
+use Rattle.nl_types.specs.Plain.Trees.{Tree}
+use Rattle.nl_types.specs.Plain.Worlds.{Reply}
 use Rattle.nl_layout.specs.Root.{root_of}
 use Rattle.nl_cpfile.specs.Tables.{kept_at, checkpoint_root}
 use Rattle.nl_cpfile.specs.declared.checkpoint.Checkpoint.{Checkpoint}
 use Rattle.nl_tree.specs.Held.{Holding}
 use Rattle.nl_tree.specs.Reading.{ShowsAs}
 use Rattle.nl_files.specs.CheckpointTrees.{HoldsTree}
-use Rattle.nl_commit.specs.Commits.{IsHistory, image_of}
+use Rattle.nl_commit.specs.Commits.{IsHistory, shown_after}
 use Rattle.nl_commit.specs.Means.{RootMeans}
 use Rattle.nl_commit.specs.Shown.{Shown, mounted_on, pages_shown}
 use Rattle.nl_publish.specs.declared.image.Image.{Image}
@@ -138,22 +138,22 @@ mounted_tree x m = option_and_then (λ n. option_map (tree_of n) (kept_at n x.ta
 pub record IsMountTree (m : Claim) (old new : Known) (x : Shown) (tree : MountedTree) : Type 0 where
   pub volume : m.told.volume ≡ old.volume
   pub made : IsPrefix m.told.commits new.commits
-  pub shown : x ≡ image_of new.commits
-  pub mounted : mounted_on (image_of new.commits) m.number ≡ Some tree.checkpoint
+  pub shown : x ≡ shown_after new.commits
+  pub mounted : mounted_on (shown_after new.commits) m.number ≡ Some tree.checkpoint
   pub is_own : tree.checkpoint ≡ m.checkpoint
   pub checkpoint : Checkpoint
-  pub kept : kept_at tree.checkpoint (image_of new.commits).table ≡ Some checkpoint
+  pub kept : kept_at tree.checkpoint (shown_after new.commits).table ≡ Some checkpoint
   pub root : checkpoint_root checkpoint ≡ tree.root
-  pub means : (t : Tree) → TreeOn (image_of new.commits) tree.checkpoint t
+  pub means : (t : Tree) → TreeOn (shown_after new.commits) tree.checkpoint t
       → RootMeans (pages_shown x) tree.root t
-  pub told : (t : Tree) → TreeOn (image_of m.told.commits) m.checkpoint t
+  pub told : (t : Tree) → TreeOn (shown_after m.told.commits) m.checkpoint t
       → RootMeans (pages_shown x) tree.root t
 
 -- What a look for a mount at the image x finds, whose history is as new as what was seen: the image lacks the
 -- mount, or shows its checkpoint.
 pub data Finds (m : Claim) (old new : Known) (x : Shown) (tree : Option MountedTree) : Type 0 where
   Lacks : m.told.volume ≡ old.volume → IsSeenOn old new
-      → mounted_on (image_of new.commits) m.number ≡ None → tree ≡ None
+      → mounted_on (shown_after new.commits) m.number ≡ None → tree ≡ None
       → Finds m old new x tree
   Shows : (t : MountedTree) → IsSeenOn old new → IsMountTree m old new x t → tree ≡ Some t
       → Finds m old new x tree

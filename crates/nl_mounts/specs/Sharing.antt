@@ -1,24 +1,15 @@
 -- What calls of a shared volume come to. Each runs a call under the lock, in a state that other calls may
 -- have made.
-use Rattle.std.specs.Prelude.{◌≡◌, ◌≢◌, ◌<◌, ◌≤◌, ◌+◌, ◌⊎◌, ℕ, false, List, All, length, slice_get, IfOk, MatchBool, Option, Result, Ok, Err}
-use Rattle.std.specs.Option.{ok_or}
+use Rattle.std.specs.Prelude.{◌≡◌, ◌≢◌, ◌<◌, ◌≤◌, ◌⊎◌, ℕ, false, List, All, IfOk, MatchBool, Option, Result, Ok, Err}
 use mathlib.Core.List.{IsPrefix}
 use Rattle.nl_types.specs.declared.error.VolError.{VolError}
 use Rattle.nl_types.specs.declared.error.VolError.TheVariants.{BadMount, BadRange, Memory}
-use Rattle.nl_types.specs.declared.event.Ask.{Ask}
 use Rattle.nl_types.specs.declared.event.Event.{Event}
-use Rattle.nl_types.specs.declared.segment.SegmentInfo.{SegmentInfo}
-use Rattle.nl_types.specs.Segments.{clean_segments}
-use Rattle.nl_types.specs.Worlds.{Reply, World}
-use Rattle.nl_sufile.specs.declared.table.Sustat.{Sustat}
-use Rattle.nl_cpfile.specs.Tables.{cpstat_of}
-use Rattle.nl_cpfile.specs.declared.table.Cpstat.{Cpstat}
-use Rattle.nl_protect.specs.declared.config.Config.{Config}
-use Rattle.nl_commit.specs.CleanerViews.{needed_told}
-use Rattle.nl_commit.specs.Commits.{image_of}
-use Rattle.nl_commit.specs.Layout.{Layout, MeansWorld, ReadsCopy, layout_of}
+use Rattle.nl_types.specs.Plain.Worlds.{Reply, World}
+use Rattle.nl_commit.specs.Commits.{shown_after}
+use Rattle.nl_commit.specs.Layout.{Layout, MeansWorld, layout_of}
 use Rattle.nl_commit.specs.Volume.{without_mounts}
-use Rattle.nl_commit.specs.Rounds.{RoundHabits}
+use Rattle.nl_rounds.specs.Rounds.{RoundHabits}
 use Rattle.nl_publish.specs.Begun.{HasBegun}
 use Rattle.nl_publish.specs.Cleaning.{CleanRan}
 use Rattle.nl_publish.specs.Histories.{Known}
@@ -92,7 +83,7 @@ number_in (Err e) = Err e
 
 -- a mount's checkpoint is the copy of its number in a world
 abbrev pub MountsCopy : HeldPen → Claim → Type 0
-MountsCopy h m = (w : World) → MeansWorld h.layout w → ShowsCopy (image_of m.told.commits) m.checkpoint w
+MountsCopy h m = (w : World) → MeansWorld h.layout w → ShowsCopy (shown_after m.told.commits) m.checkpoint w
 
 -- The checkpoint is mounted, and the mount is told of all that is published then; or that is refused. What
 -- lies under the lock is as before an event.
@@ -130,43 +121,14 @@ pub record HasCleaned {J : Type 0} (rounds : RoundHabits J) (round : J) (reply :
   pub sound : IsSoundState old
   pub ran : CleanRan rounds old round reply new now
 
-pub record IsRoundPlanned {J : Type 0} (rounds : RoundHabits J) (config : Config) (moment : ℕ)
-    (round : J) : Type 0 where
+-- it is so of some sound state that stood under the lock
+pub record InSomeState (Is : HeldPen → Type 0) : Type 0 where
   pub state : HeldPen
   pub sound : IsSoundState state
-  pub plan : rounds.plans state.layout config moment round
-
-pub record IsSegmentTold (segment : ℕ) (result : Result SegmentInfo VolError) : Type 0 where
-  pub state : HeldPen
-  pub sound : IsSoundState state
-  pub told : result ≡ ok_or (slice_get state.layout.store.segments.each segment) BadRange
-
-pub record IsNeededTold (segment : ℕ) (result : Result ℕ VolError) : Type 0 where
-  pub state : HeldPen
-  pub sound : IsSoundState state
-  pub told : result ≡ needed_told state.layout segment
-
-pub record AreSegmentsCounted (stat : Sustat) : Type 0 where
-  pub state : HeldPen
-  pub sound : IsSoundState state
-  pub segments : stat.segments ≡ length state.layout.store.segments.each
-  pub clean : stat.clean ≡ length (clean_segments state.layout.store.segments)
-  pub dirty : stat.dirty + stat.clean ≡ stat.segments
-
-pub record AreCheckpointsCounted (stat : Cpstat) : Type 0 where
-  pub state : HeldPen
-  pub sound : IsSoundState state
-  pub counted : stat ≡ cpstat_of state.layout.lists.table
-
-pub record IsCopyRead (number : ℕ) (ask : Ask) (reply : Reply) : Type 0 where
-  pub state : HeldPen
-  pub sound : IsSoundState state
-  pub told : ReadsCopy state.layout number ask reply
+  pub is : Is state
 
 -- ---- the end
 
 -- the pen holds what it held under the lock, but for its mounts
-pub record IsPenBack (pen : Layout) : Type 0 where
-  pub state : HeldPen
-  pub sound : IsSoundState state
-  pub is : pen ≡ layout_of (without_mounts state.layout.lists) state.layout.store
+abbrev pub IsPenBack : Layout → Type 0
+IsPenBack pen = InSomeState (λ h. pen ≡ layout_of (without_mounts h.layout.lists) h.layout.store)

@@ -1,6 +1,6 @@
 -- How a mount stands for a port.
 use Rattle.std.specs.Prelude.{◌≡◌, ◌≢◌, Option, None, Some}
-use Rattle.nl_commit.specs.Commits.{IsHistory, image_of}
+use Rattle.nl_commit.specs.Commits.{IsHistory, shown_after}
 use Rattle.nl_commit.specs.Shown.{mounted_on}
 use Rattle.nl_publish.specs.Histories.{Known}
 use Rattle.nl_publish.specs.Mounts.{Claim}
@@ -19,8 +19,8 @@ pub data StandsAs (m : Claim) (old new : Known) (Ungiven : Type 0) (s : Standing
   NotGiven : m.told.volume ≡ old.volume → Ungiven → new ≡ old → s ≡ standing.Ended
       → StandsAs m old new Ungiven s
   Lacking : m.told.volume ≡ old.volume → IsHistory new.commits
-      → mounted_on (image_of new.commits) m.number ≡ None → s ≡ standing.GivenBack
+      → mounted_on (shown_after new.commits) m.number ≡ None → s ≡ standing.GivenBack
       → StandsAs m old new Ungiven s
   Showing : m.told.volume ≡ old.volume → IsHistory new.commits
-      → mounted_on (image_of new.commits) m.number ≡ Some m.checkpoint → s ≡ standing.Mounted
+      → mounted_on (shown_after new.commits) m.number ≡ Some m.checkpoint → s ≡ standing.Mounted
       → StandsAs m old new Ungiven s

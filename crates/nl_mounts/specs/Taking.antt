@@ -1,7 +1,7 @@
 -- Blocks of a file that are taken out of a state.
 use Rattle.std.specs.Prelude.{◌≡◌, ◌+◌, ◌-◌, ◌/◌, ◌%◌, ◌*◌, ◌≤◌, ℕ, List, Option, None, get_or, length, map, min}
 use Rattle.std.specs.List.{range_with_len}
-use Rattle.nl_types.specs.Roots.{Blocks}
+use Rattle.nl_types.specs.Blocks.Roots.{Blocks}
 use Rattle.nl_tree.specs.Held.{Held, held_block, held_size}
 
 -- Bytes of a file: in these pages, the first of which is that of the block with the first byte; where a block isn't stored,

@@ -2,10 +2,10 @@
 use Rattle.std.specs.Prelude.{◌≡◌, ◌⊎◌, ℕ, ◌+◌, ◌-◌, ◌/◌, ◌<◌, ◌≤◌, min, slice_index, List, Contains, Some, IfOk, OnErr, IsOkUnless, MatchResult, Result, Ok, Err}
 use Rattle.nl_types.specs.declared.error.VolError.{VolError}
 use Rattle.nl_types.specs.declared.error.VolError.TheVariants.{Memory}
-use Rattle.nl_types.specs.Calls.{and_then, read}
-use Rattle.nl_types.specs.Paths.{path_of}
-use Rattle.nl_types.specs.Roots.{Blocks}
-use Rattle.nl_types.specs.Trees.{Tree}
+use Rattle.nl_types.specs.Plain.Calls.{and_then, read}
+use Rattle.nl_types.specs.Plain.Paths.{path_of}
+use Rattle.nl_types.specs.Blocks.Roots.{Blocks}
+use Rattle.nl_types.specs.Plain.Trees.{Tree}
 use Rattle.nl_tree.specs.Held.{Holding, byte_stored, held_block, held_size}
 use Rattle.nl_tree.specs.Reading.{as_file, link_at}
 use Rattle.nl_mounts.specs.declared.cache.CacheKey.{CacheKey}

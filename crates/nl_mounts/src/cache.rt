@@ -110,7 +110,7 @@ fn warm_block<T: TreeRead>(
     if cache.promote(&key) {
         return Ok(0);
     }
-    match tree.block(file.inode.get(), index) {
+    match tree.block(file.inode, index) {
         None => Ok(0),
         Some(page) => {
             put_page(cache, key, page)?;

@@ -1,8 +1,8 @@
 //! Reads of files through a cache, and what is put into it.
 ghost use Rattle.std.specs.Prelude.{◌≡◌, ◌/◌, IfErr, IfOk, OnErr, length, take, drop};
-ghost use Rattle.nl_types.specs.Calls.{and_then, read};
-ghost use Rattle.nl_types.specs.Paths.{path_of};
-ghost use Rattle.nl_types.specs.Trees.{Tree};
+ghost use Rattle.nl_types.specs.Plain.Calls.{and_then, read};
+ghost use Rattle.nl_types.specs.Plain.Paths.{path_of};
+ghost use Rattle.nl_types.specs.Plain.Trees.{Tree};
 ghost use Rattle.nl_tree.specs.Held.{Holding};
 ghost use Rattle.nl_tree.specs.Reading.{ArePartOf, HoldingMeans, ShowsAs};
 ghost use Rattle.nl_mounts.specs.Caching.{HasCachedBlocks, HoldsWith, block_count, touched};
@@ -28,7 +28,7 @@ fn read_file<T: TreeRead>(
     ensures touched { cache.new ≡ touched file.now.checkpoint file.now.inode (offset / 1024)
         (block_count offset result) cache.old }
 {
-    let left = tree.size(file.inode.get()).saturating_sub(offset);
+    let left = tree.size(file.inode).saturating_sub(offset);
     let count = into.len().min(left as usize);
     FileRead { tree, file, offset }.read(cache, &mut into[..count]);
     count
@@ -75,7 +75,7 @@ fn warm_bytes<T: TreeRead>(
     ensures stored { PutsStored (T.holds tree.now) file.now.checkpoint cache.old cache.new }
     ensures refused { IfErr result (λ e. e ≡ VolError.Memory) }
 {
-    let count = tree.size(file.inode.get()).saturating_sub(offset).min(len);
+    let count = tree.size(file.inode).saturating_sub(offset).min(len);
     let end = block_end(offset, count);
     warm_file(tree, cache, file, offset / BLOCK_SIZE as u64, end)
 }

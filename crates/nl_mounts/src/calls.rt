@@ -1,104 +1,21 @@
 //! Calls of a shared volume, one for each event that a program asks for, with an answer of its own.
-ghost use Rattle.std.specs.Prelude.{◌≡◌, Ok, Err, IfOk, MatchResult};
 ghost use Rattle.nl_types.specs.declared.event.Change.TheVariants as change;
 ghost use Rattle.nl_types.specs.declared.event.Event.TheVariants.{Apply, ChangeMode, Checkpoint, Listing, Remove, RemoveRange, Resize};
 ghost use Rattle.nl_types.specs.declared.event.Mode.TheVariants.{Plain, Snapshot};
-ghost use Rattle.nl_types.specs.declared.reply.Answer.{Answer};
 ghost use Rattle.nl_types.specs.declared.reply.Answer.TheVariants as answer;
-ghost use Rattle.nl_mounts.specs.TypedCalls.{HasAnswered, HasDone, IsReplyWith, UnlessMemory, change_at};
+ghost use Rattle.nl_calls.specs.Changes.{change_at};
+ghost use Rattle.nl_mounts.specs.TypedCalls.{HasAnswered, HasDone, UnlessMemory};
 
 use crate::shared::Shared;
-use nl_publish::laws::locked_runs_lead_on;
-use nl_publish::{NotingPen, Press, Volumes};
-use nl_types::{
-    Answer, Change, CheckpointNumber, Event, Items, ListOptions, Mode, Range, Reply, Row, VolError,
+use nl_calls::{
+    PathCall, checkpoint_made, copies, range_removed, rows_listed, without_answer, written,
 };
-use std::alloc::{AllocError, Global};
+use nl_publish::{NotingPen, Press, Volumes, laws};
+use nl_types::{
+    Change, CheckpointNumber, Event, Items, ListOptions, Mode, Range, Reply, Row, VolError,
+};
+use std::alloc::Global;
 use std::sync::Wait;
-
-/// A change of what stands at one path.
-#[derive(Clone, Copy)]
-pub enum PathCall {
-    Create,
-    Mkdir,
-    Truncate(u64),
-    Unlink,
-    Rmdir,
-}
-
-impl PathCall {
-    fn change(self, path: Items<u8>) -> Change
-        ensures { result ≡ change_at self path }
-    {
-        match self {
-            PathCall::Create => Change::Create { path },
-            PathCall::Mkdir => Change::Mkdir { path },
-            PathCall::Truncate(size) => Change::Truncate { path, size },
-            PathCall::Unlink => Change::Unlink { path },
-            PathCall::Rmdir => Change::Rmdir { path },
-        }
-    }
-}
-
-/// Copies of two lists of bytes.
-fn copies(alloc: Global, first: &[u8], second: &[u8]) -> Result<(Items<u8>, Items<u8>), AllocError>
-    ensures first { IfOk result (λ copied. copied.0 ≡ first.now) }
-    ensures second { IfOk result (λ copied. copied.1 ≡ second.now) }
-{
-    let first = Items::from_slice(alloc, first)?;
-    let second = Items::from_slice(alloc, second)?;
-    Ok((first, second))
-}
-
-// ---- answers, taken out of replies
-
-/// Whether an event was done, without its answer.
-fn done(reply: Reply) -> Result<(), VolError>
-    ensures { MatchResult result (λ _. (a : Answer) × (reply ≡ Ok a)) (λ e. reply ≡ Err e) }
-{
-    reply?;
-    Ok(())
-}
-
-fn written(reply: Reply) -> Result<u64, VolError>
-    requires { IsReplyWith answer.Written reply }
-    ensures { MatchResult result (λ count. reply ≡ Ok (answer.Written count)) (λ e. reply ≡ Err e) }
-{
-    match reply? {
-        Answer::Written(count) => Ok(count),
-        _ => unreachable!(),
-    }
-}
-
-fn checkpoint_made(reply: Reply) -> Result<CheckpointNumber, VolError>
-    requires { IsReplyWith answer.Checkpoint reply }
-    ensures { MatchResult result (λ number. reply ≡ Ok (answer.Checkpoint number)) (λ e. reply ≡ Err e) }
-{
-    match reply? {
-        Answer::Checkpoint(number) => Ok(number),
-        _ => unreachable!(),
-    }
-}
-
-fn range_removed(reply: Reply) -> Result<Range, VolError>
-    requires { IsReplyWith answer.Removed reply }
-    ensures { MatchResult result (λ range. reply ≡ Ok (answer.Removed range)) (λ e. reply ≡ Err e) }
-{
-    match reply? {
-        Answer::Removed(range) => Ok(range),
-        _ => unreachable!(),
-    }
-}
-
-fn rows_listed(reply: Reply) -> Result<Items<Row>, VolError>
-    requires { IsReplyWith answer.Rows reply }
-    ensures { MatchResult result (λ rows. reply ≡ Ok (answer.Rows rows)) (λ e. reply ≡ Err e) }
-{
-    match reply? {
-        Answer::Rows(rows) => Ok(rows),
-        _ => unreachable!(),
-    }
-}
 
 // ---- changes of files
 
@@ -116,7 +33,7 @@ impl<P: NotingPen, J: Volumes, W: Press> Shared<P, J, W> {
         let Ok(path) = Items::from_slice(alloc, path) else {
             return Err(VolError::Memory);
         };
-        done(self.apply(rt, &Event::Apply(call.change(path))))
+        without_answer(self.apply(rt, &Event::Apply(call.change(path))))
     }
 
     /// Makes an empty file.
@@ -194,7 +111,7 @@ impl<P: NotingPen, J: Volumes, W: Press> Shared<P, J, W> {
         let Ok((path, bytes)) = copies(alloc, path, bytes) else {
             return Err(VolError::Memory);
         };
-        locked_runs_lead_on();
+        laws::locked_runs_lead_on();
         let event = Event::Apply(Change::Write {
             path,
             offset,
@@ -219,7 +136,7 @@ impl<P: NotingPen, J: Volumes, W: Press> Shared<P, J, W> {
         let Ok((from, to)) = copies(alloc, from, to) else {
             return Err(VolError::Memory);
         };
-        done(self.apply(rt, &Event::Apply(Change::Rename { from, to })))
+        without_answer(self.apply(rt, &Event::Apply(Change::Rename { from, to })))
     }
 }
 
@@ -235,7 +152,7 @@ impl<P: NotingPen, J: Volumes, W: Press> Shared<P, J, W> {
     ) -> Result<CheckpointNumber, VolError>
         ensures { HasAnswered answer.Checkpoint (Checkpoint mode moment) result }
     {
-        locked_runs_lead_on();
+        laws::locked_runs_lead_on();
         checkpoint_made(self.apply(rt, &Event::Checkpoint { mode, moment }))
     }
 
@@ -273,7 +190,7 @@ impl<P: NotingPen, J: Volumes, W: Press> Shared<P, J, W> {
     ) -> Result<(), VolError>
         ensures { HasDone (ChangeMode number mode) result }
     {
-        done(self.apply(rt, &Event::ChangeMode(number, mode)))
+        without_answer(self.apply(rt, &Event::ChangeMode(number, mode)))
     }
 
     /// Removes a plain checkpoint, as `nl_lib::delete_checkpoint` does.
@@ -288,7 +205,7 @@ impl<P: NotingPen, J: Volumes, W: Press> Shared<P, J, W> {
     ) -> Result<(), VolError>
         ensures { HasDone (Remove number) result }
     {
-        done(self.apply(rt, &Event::Remove(number)))
+        without_answer(self.apply(rt, &Event::Remove(number)))
     }
 
     /// Removes the plain checkpoints from a first number to a last one, but for the latest one, and answers
@@ -305,7 +222,7 @@ impl<P: NotingPen, J: Volumes, W: Press> Shared<P, J, W> {
     ) -> Result<Range, VolError>
         ensures { HasAnswered answer.Removed (RemoveRange first last) result }
     {
-        locked_runs_lead_on();
+        laws::locked_runs_lead_on();
         range_removed(self.apply(rt, &Event::RemoveRange { first, last }))
     }
 
@@ -317,7 +234,7 @@ impl<P: NotingPen, J: Volumes, W: Press> Shared<P, J, W> {
     pub fn listing<R: Wait>(&self, rt: &R, options: &ListOptions) -> Result<Items<Row>, VolError>
         ensures { HasAnswered answer.Rows (Listing options.now) result }
     {
-        locked_runs_lead_on();
+        laws::locked_runs_lead_on();
         rows_listed(self.apply(rt, &Event::Listing(*options)))
     }
 
@@ -329,6 +246,6 @@ impl<P: NotingPen, J: Volumes, W: Press> Shared<P, J, W> {
     pub fn resize<R: Wait>(&self, rt: &R, segments: u32) -> Result<(), VolError>
         ensures { HasDone (Resize segments) result }
     {
-        done(self.apply(rt, &Event::Resize(segments)))
+        without_answer(self.apply(rt, &Event::Resize(segments)))
     }
 }

@@ -2,8 +2,7 @@
 ghost use Rattle.std.specs.Prelude.{◌≡◌, None, Some, MatchResult};
 ghost use Rattle.nl_publish.specs.Images.{Looks};
 
-use left_right::reader::{Reader, Reading};
-use nl_publish::{Image, Keeps, Name, Sees};
+use nl_publish::{Image, ImageReader, ImageReading, SeeImage};
 
 /// A reader's seat where images are published.
 pub trait Enters: Drop {
@@ -39,10 +38,10 @@ pub trait Enters: Drop {
         ensures { names result ≡ names_inside inside };
 }
 
-impl Enters for Reader<Image, Name, Keeps> {
+impl Enters for ImageReader {
     ghost use Rattle.nl_publish.specs.Seats.{known_to};
 
-    type Inside = Reading<Image, Name, Keeps>;
+    type Inside = ImageReading;
 
     // Nothing is known of which image a reader is given, or whether it is given one.
     ghost gives = { λ r i. Unit {0} };
@@ -54,7 +53,7 @@ impl Enters for Reader<Image, Name, Keeps> {
     ghost shown = { λ r. r.part.value };
 
     fn enter(self) -> Result<Self::Inside, Self> {
-        self.enter_as::<Sees>()
+        self.enter_as::<SeeImage>()
     }
 
     fn image(inside: &Self::Inside) -> &Image {

@@ -53,7 +53,7 @@ impl<T: TreeRead> FileRead<'_, T> {
         }
         let offset = self.offset + from as u64;
         self.tree
-            .read_bytes(self.file.inode.get(), offset, &mut into[from..to]);
+            .read_bytes(self.file.inode, offset, &mut into[from..to]);
     }
 
     /// Where the block ends in so many bytes in which one of them lies.

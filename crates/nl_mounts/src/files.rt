@@ -1,7 +1,7 @@
 //! Files of mounts that are open: their reads walk no path.
 ghost use Rattle.std.specs.Prelude.{◌≡◌, ◌+◌, ◌<◌, ◌≤◌, ◌^◌, ℕ, List, None, IfErr, IfOk, IfSome, OnErr, length};
-ghost use Rattle.nl_types.specs.Trees.{Tree};
-ghost use Rattle.nl_commit.specs.Commits.{image_of};
+ghost use Rattle.nl_types.specs.Plain.Trees.{Tree};
+ghost use Rattle.nl_commit.specs.Commits.{shown_after};
 ghost use Rattle.nl_commit.specs.Shown.{pages_shown};
 ghost use Rattle.nl_publish.specs.Told.{TreeOn};
 ghost use Rattle.nl_lanes.specs.Reading.{IsLater, Looked, Told};
@@ -261,7 +261,7 @@ impl<J: Volumes> FileAt<'_, J> {
         requires most { len ≤ 65536 }
         ensures later { IsLater port.old.known port.new.known }
         ensures more { IfOk result (λ more. (t : Tree) (was : List ℕ)
-            → TreeOn (image_of self.now.mount.told.commits) self.now.mount.checkpoint t
+            → TreeOn (shown_after self.now.mount.told.commits) self.now.mount.checkpoint t
             → IsReadUpTo t self.now.path offset was count into.old
             → HasReadMore t self.now.path offset was count len more into.new) }
         ensures refused { IfErr result (IsPartRefused self.now.mount port.old.known port.new.known
@@ -275,10 +275,11 @@ impl<J: Volumes> FileAt<'_, J> {
         self.read_apart(port, offset + count as u64, &mut into[count..count + len])
     }
 
-    /// Reads bytes of the file as `read_into` does, but part by part, of 64 KiB at most: each is an entry of its
-    /// own, in which it shares the part's pages, whose bytes it copies outside. So publications go on meanwhile. All bytes are of the one tree that the mount's checkpoint had when
-    /// it was mounted. It takes no memory, and never waits. Where a part is refused, it answers how many bytes
-    /// were read before, and the refusal, which is `BadMount`.
+    /// Reads bytes of the file as `read_into` does, but part by part, of 64 KiB at most. Each part is an entry
+    /// of its own, in which it shares the part's pages; it copies their bytes outside. So publications go on
+    /// meanwhile. All bytes are of the one tree that the mount's checkpoint had when it was mounted. It takes no
+    /// memory, and never waits. If a part is refused, it answers how many bytes were read before, and the
+    /// refusal, which is `BadMount`.
     pub fn read_parts<E: Enters>(
         &self,
         port: &mut Port<J, E>,
@@ -286,7 +287,7 @@ impl<J: Volumes> FileAt<'_, J> {
         into: &mut [u8],
     ) -> PartsRead
         ensures later { IsLater port.old.known port.new.known }
-        ensures told { (t : Tree) → TreeOn (image_of self.now.mount.told.commits) self.now.mount.checkpoint t
+        ensures told { (t : Tree) → TreeOn (shown_after self.now.mount.told.commits) self.now.mount.checkpoint t
             → ArePartsRead t self.now.path offset into.old result into.new }
         ensures refused { IfSome result.refusal (IsPartRefused self.now.mount port.old.known port.new.known
             (λ k. IsUngiven E.gives k port.old.seated)) }

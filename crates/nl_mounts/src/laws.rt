@@ -1,7 +1,7 @@
 //! What calls of one thread come to, one behind the other, as a contract of a function that does nothing.
 ghost use Rattle.nl_mounts.specs.InOrder.{MountsShowWhatWasTold};
 
-use nl_publish::laws::{histories_show_images, kept_trees_stay, published_worlds_are_shown};
+use nl_publish::laws as publish_laws;
 
 /// A port that was told of an event, all of whose history was published, and then mounts a checkpoint: the mount
 /// shows the copy of that number which the world had behind the event. So checkpoint, mount and read of one thread
@@ -9,7 +9,7 @@ use nl_publish::laws::{histories_show_images, kept_trees_stay, published_worlds_
 pub fn mounts_show_what_was_told()
     ensures { MountsShowWhatWasTold }
 {
-    published_worlds_are_shown();
-    kept_trees_stay();
-    histories_show_images();
+    publish_laws::published_worlds_are_shown();
+    publish_laws::kept_trees_stay();
+    publish_laws::histories_show_images();
 }

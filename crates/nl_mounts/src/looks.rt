@@ -8,8 +8,7 @@ ghost use Rattle.nl_mounts.specs.Ports.{Finds, HasTreeIn, IsOlder, mounted_tree}
 
 use crate::enters::Enters;
 use nl_layout::Root;
-use nl_publish::laws::{histories_show_images, mounts_begin, mounts_stay};
-use nl_publish::{Front, Image, Mount, Volumes};
+use nl_publish::{Front, Image, Mount, Volumes, laws};
 use nl_types::{CheckpointNumber, MountNumber};
 use std::marker::Model;
 
@@ -74,9 +73,9 @@ pub(crate) fn find<J: Volumes>(
     ensures finds { IfSome result (λ found. Finds mount.now seen.now found.0 image.now.tables found.1) }
     ensures older { IfNone result (IsOlder image.now seen.now) }
 {
-    histories_show_images();
-    mounts_stay();
-    mounts_begin();
+    laws::histories_show_images();
+    laws::mounts_stay();
+    laws::mounts_begin();
     match front_at(image, seen) {
         None => None,
         Some(front) => {

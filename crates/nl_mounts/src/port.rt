@@ -2,7 +2,7 @@
 ghost use Rattle.std.specs.Prelude.{◌≡◌, ◌≢◌, [], None, Some, true, IfErr, IfOk, OnErr, OnOk, IsSome, length};
 ghost use Rattle.std.specs.Option.{option_map_or};
 ghost use Rattle.lru.specs.LruCache.{lru_cache};
-ghost use Rattle.nl_commit.specs.Commits.{image_of};
+ghost use Rattle.nl_commit.specs.Commits.{shown_after};
 ghost use Rattle.nl_commit.specs.Shown.{pages_shown};
 ghost use Rattle.nl_publish.specs.Images.{name_of};
 ghost use Rattle.nl_mounts.specs.Caching.{AreCachedPages, IsCacheRefused, IsCacheSize};
@@ -372,7 +372,7 @@ impl<J: Volumes, E: Enters> Port<J, E> {
         ensures told { Told mount.now (IsNotRead result into.old into.new)
             (λ t. IsReadOf t path.now offset into.old result into.new) }
         ensures touched { TouchesIfAny
-            (OfMountFile (image_of self.new.known.commits) mount.now.number path.now)
+            (OfMountFile (shown_after self.new.known.commits) mount.now.number path.now)
             offset cache.old result cache.new }
     {
         match self.look(mount) {
@@ -407,7 +407,7 @@ impl<J: Volumes, E: Enters> Port<J, E> {
         ensures told { Told mount.now (IsNotRead result into.old into.new)
             (λ t. IsReadOf t path.now offset into.old result into.new) }
         ensures touched { TouchesIfAny
-            (OfMountFile (image_of self.new.known.commits) mount.now.number path.now)
+            (OfMountFile (shown_after self.new.known.commits) mount.now.number path.now)
             offset self.old.cache result self.new.cache }
         ensures seated { self.new.seated ≡ self.old.seated }
     {
@@ -436,7 +436,7 @@ impl<J: Volumes, E: Enters> Port<J, E> {
         ensures told { Told mount.now (result ≡ Err VolError.BadMount)
             (λ t. IsWarmingOf t path.now result) }
         ensures warmed { Warms
-            (OfMountFile (image_of self.new.known.commits) mount.now.number path.now)
+            (OfMountFile (shown_after self.new.known.commits) mount.now.number path.now)
             offset len cache.old result cache.new }
     {
         match self.look(mount) {
@@ -470,7 +470,7 @@ impl<J: Volumes, E: Enters> Port<J, E> {
         ensures told { IsSome self.old.cache → Told mount.now
             (result ≡ Err VolError.BadMount) (λ t. IsWarmingOf t path.now result) }
         ensures warmed { WarmsIfAny
-            (OfMountFile (image_of self.new.known.commits) mount.now.number path.now)
+            (OfMountFile (shown_after self.new.known.commits) mount.now.number path.now)
             offset len self.old.cache result self.new.cache }
         ensures seated { self.new.seated ≡ self.old.seated }
     {

@@ -1,22 +1,30 @@
 //! A volume that threads share.
-ghost use Rattle.std.specs.Prelude.{◌≡◌, ◌≢◌, ◌≤◌, ◌+◌, ◌++◌, Err, IfErr, IfOk, IsOkUnless, MatchBool, length, map};
+ghost use Rattle.std.specs.Prelude.{◌≡◌, ◌≢◌, ◌≤◌, ◌+◌, ◌++◌, Err, IfErr, IfOk, IsOkUnless, MatchBool, length, map, slice_get};
+ghost use Rattle.std.specs.Option.{ok_or};
+ghost use Rattle.std.specs.Sync.Mutex.{mutex_guard_value};
+ghost use Rattle.nl_types.specs.Blocks.Segments.{clean_segments};
+ghost use Rattle.nl_cpfile.specs.Tables.{cpstat_of};
+ghost use Rattle.nl_commit.specs.CleanerViews.{needed_told};
+ghost use Rattle.nl_commit.specs.Layout.{ReadsCopy};
 ghost use Rattle.nl_lanes.specs.Reading.{HasLearned, IsLater};
-ghost use Rattle.nl_mounts.specs.Sharing.{AreCheckpointsCounted, AreSegmentsCounted, HasCleaned, HasMounted, HasRun, HasTold, HasUnmounted, IsCopyRead, IsForeignReply, IsKnownTo, IsNeededTold, IsPenBack, IsPortCount, IsRoundPlanned, IsSegmentTold, IsShareRefused, IsShared, MountComes, Tells, UnmountComes};
+ghost use Rattle.nl_mounts.specs.Sharing.{HasCleaned, HasMounted, HasRun, HasTold, HasUnmounted, InSomeState, IsForeignReply, IsKnownTo, IsPenBack, IsPortCount, IsShareRefused, IsShared, MountComes, Tells, UnmountComes};
 ghost use Rattle.nl_mounts.specs.Ports.{Learns, fresh, seeing};
 ghost use Rattle.nl_publish.specs.Locks.{IsNoMountEvent, IsSoundState};
+ghost use Rattle.nl_publish.specs.SegmentViews.{segment_told};
 
 use crate::port::Port;
-use nl_commit::Round;
+use nl_config::Config;
 use nl_cpfile::Cpstat;
-use nl_protect::Config;
 use nl_publish::{
-    Gone, Locked, Mount, NotingPen, Opened, Press, Publisher, RefusedMount, Seat, Volumes,
+    Gone, Locked, Mount, NotingPen, Opened, Press, Publisher, RefusedMount, Seat, SegmentView,
+    Volumes,
 };
+use nl_rounds::Round;
 use nl_sufile::Sustat;
-use nl_types::{Ask, CheckpointNumber, Event, Reply, Segment, SegmentInfo, VolError};
+use nl_types::{Ask, CheckpointNumber, Event, Moment, Reply, Segment, SegmentInfo, VolError};
 use std::alloc::Global;
 use std::marker::Model;
-use std::sync::{Mutex, Wait};
+use std::sync::{Mutex, MutexGuard, Wait};
 
 /// The most ports of a volume.
 const MOST_PORTS: usize = 32;
@@ -85,7 +93,7 @@ fn apply_for<P: NotingPen, J: Volumes, W: Press, R: Wait>(
     port.see(locked.told());
     ToldReply {
         reply,
-        is_told: locked.is_settled(),
+        is_told: locked.has_published_all(),
     }
 }
 
@@ -139,6 +147,15 @@ fn unmount_of<P: NotingPen, J: Volumes, W: Press, R: Wait>(
 // ---- events and mounts
 
 impl<P: NotingPen, J: Volumes, W: Press> Shared<P, J, W> {
+    /// Takes the lock. What lies under it is sound.
+    fn lock<R: Wait>(&self, rt: &R) -> MutexGuard<'_, Locked<P, J, W>>
+        ensures { IsSoundState (mutex_guard_value result) }
+    {
+        let locked = self.locked.lock(rt);
+        locked.is_sound();
+        locked
+    }
+
     /// Applies an event that is no mount and no unmount, which have calls of their own. It stands where its
     /// commit can't be published for want of memory: each later call publishes first.
     ///
@@ -148,9 +165,7 @@ impl<P: NotingPen, J: Volumes, W: Press> Shared<P, J, W> {
         requires { IsNoMountEvent event.now }
         ensures { HasRun event.now result }
     {
-        let mut locked = self.locked.lock(rt);
-        locked.is_sound();
-        locked.apply(rt, event)
+        self.lock(rt).apply(rt, event)
     }
 
     /// Applies an event as `apply` does, and tells the port of the history behind it, where all of that is
@@ -231,12 +246,10 @@ impl<P: NotingPen, J: Volumes, W: Press> Shared<P, J, W> {
     pub fn clean_step<G: Round<P>, R: Wait>(&self, rt: &R, round: &mut G) -> Option<Reply>
         ensures { HasCleaned G.habits round.old result round.new }
     {
-        let mut locked = self.locked.lock(rt);
-        locked.is_sound();
-        locked.clean_step(rt, round)
+        self.lock(rt).clean_step(rt, round)
     }
 
-    /// The round of cleaning that a configuration asks for at a moment, in whole seconds. It only looks.
+    /// The round of cleaning that a configuration asks for at a moment. It only looks.
     ///
     /// # Errors
     /// `Memory`.
@@ -245,14 +258,23 @@ impl<P: NotingPen, J: Volumes, W: Press> Shared<P, J, W> {
         rt: &R,
         alloc: Global,
         config: &Config,
-        now: u64,
+        now: Moment,
     ) -> Result<G, VolError>
-        ensures planned { IfOk result (IsRoundPlanned G.habits config.now now) }
+        ensures planned { IfOk result (λ round.
+            InSomeState (λ h. G.habits.plans h.layout config.now now round)) }
         ensures refused { IsOkUnless result VolError.Memory }
     {
-        let locked = self.locked.lock(rt);
-        locked.is_sound();
-        locked.plan(alloc, config, now)
+        self.lock(rt).plan(alloc, config, now)
+    }
+
+    /// What is known of a segment, and how many needed blocks it has, both of one state. It takes no memory.
+    ///
+    /// # Errors
+    /// `BadRange` where there is no such segment.
+    pub fn segment<R: Wait>(&self, rt: &R, segment: Segment) -> Result<SegmentView, VolError>
+        ensures { InSomeState (λ h. result ≡ segment_told h.layout segment) }
+    {
+        self.lock(rt).segment(segment)
     }
 
     /// What is known of a segment. It takes no memory.
@@ -260,11 +282,10 @@ impl<P: NotingPen, J: Volumes, W: Press> Shared<P, J, W> {
     /// # Errors
     /// `BadRange` where there is no such segment.
     pub fn suinfo<R: Wait>(&self, rt: &R, segment: Segment) -> Result<SegmentInfo, VolError>
-        ensures { IsSegmentTold segment result }
+        ensures { InSomeState (λ h.
+            result ≡ ok_or (slice_get h.layout.store.segments.each segment) VolError.BadRange) }
     {
-        let locked = self.locked.lock(rt);
-        locked.is_sound();
-        locked.suinfo(segment)
+        self.lock(rt).suinfo(segment)
     }
 
     /// How many needed blocks a segment has. It takes no memory.
@@ -272,29 +293,25 @@ impl<P: NotingPen, J: Volumes, W: Press> Shared<P, J, W> {
     /// # Errors
     /// `BadRange` where there is no such segment.
     pub fn needed<R: Wait>(&self, rt: &R, segment: Segment) -> Result<u32, VolError>
-        ensures { IsNeededTold segment result }
+        ensures { InSomeState (λ h. result ≡ needed_told h.layout segment) }
     {
-        let locked = self.locked.lock(rt);
-        locked.is_sound();
-        locked.needed(segment)
+        self.lock(rt).needed(segment)
     }
 
     /// How many segments there are, and of them how many are clean, and how many dirty. It takes no memory.
     pub fn sustat<R: Wait>(&self, rt: &R) -> Sustat
-        ensures { AreSegmentsCounted result }
+        ensures { InSomeState (λ h. (result.segments ≡ length h.layout.store.segments.each)
+            × (result.clean ≡ length (clean_segments h.layout.store.segments))
+            × (result.dirty + result.clean ≡ result.segments)) }
     {
-        let locked = self.locked.lock(rt);
-        locked.is_sound();
-        locked.sustat()
+        self.lock(rt).sustat()
     }
 
     /// How many checkpoints and snapshots are kept, and the latest one's number. It takes no memory.
     pub fn cpstat<R: Wait>(&self, rt: &R) -> Cpstat
-        ensures { AreCheckpointsCounted result }
+        ensures { InSomeState (λ h. result ≡ cpstat_of h.layout.lists.table) }
     {
-        let locked = self.locked.lock(rt);
-        locked.is_sound();
-        locked.cpstat()
+        self.lock(rt).cpstat()
     }
 
     /// What the tree of a kept checkpoint answers, without a mount: of a plain one too, and of a minor one.
@@ -303,11 +320,9 @@ impl<P: NotingPen, J: Volumes, W: Press> Shared<P, J, W> {
     /// # Errors
     /// `NoCheckpoint` where it isn't kept; those of the call; `Memory`, but for `stat`, which takes none.
     pub fn read_at<R: Wait>(&self, rt: &R, number: CheckpointNumber, ask: &Ask) -> Reply
-        ensures { IsCopyRead number ask.now result }
+        ensures { InSomeState (λ h. ReadsCopy h.layout number ask.now result) }
     {
-        let locked = self.locked.lock(rt);
-        locked.is_sound();
-        locked.read_at(number, ask)
+        self.lock(rt).read_at(number, ask)
     }
 }
 

@@ -50,7 +50,7 @@ fn share_block<T: TreeRead>(
     ensures { IfOk result (λ page. (held : Holding) → T.holds tree.now held
         → page ≡ held_block (held inode) index) }
 {
-    match tree.block(inode.get(), index) {
+    match tree.block(inode, index) {
         None => Ok(None),
         Some(page) => {
             let shared = page.share()?;
@@ -95,7 +95,7 @@ impl TakenBytes {
         ensures within { IfOk result (λ taken. taken.count ≤ len) }
         ensures end { IfOk result (λ taken. offset + taken.count < 2 ^ 64) }
     {
-        let left = tree.size(inode.get()).saturating_sub(offset);
+        let left = tree.size(inode).saturating_sub(offset);
         let count = len.min(left as usize);
         let start = (offset % BLOCK_SIZE as u64) as usize;
         let blocks = (start + count).div_ceil(BLOCK_SIZE);

@@ -4,7 +4,8 @@ ghost use Rattle.std.specs.Prelude.{◌≡◌};
 use crate::backup::{Volume, give_back, keep_file, shared};
 use nl_cleaner::Job;
 use nl_mounts::{
-    Amount, CheckpointNumber, Config, FileAt, Mount, Opened, PartsRead, Port, VolError, Volumes,
+    Amount, CheckpointNumber, Config, FileAt, Moment, Mount, Opened, PartsRead, Port, VolError,
+    Volumes,
 };
 use std::alloc::Global;
 use std::marker::Brand;
@@ -41,7 +42,7 @@ pub(crate) fn clean<J: Volumes, R: Wait>(
     volume: &Volume<J>,
     moment: u64,
 ) -> Result<(), VolError> {
-    let mut round: Job = volume.plan(rt, alloc, &config(), moment)?;
+    let mut round: Job = volume.plan(rt, alloc, &config(), Moment::new(moment))?;
     finish(rt, volume, &mut round);
     Ok(())
 }

@@ -6,8 +6,8 @@ use Rattle.std.specs.Option.{is_none, option_map}
 use Rattle.std.proofs.lemmas.Bool.{eq-eqb, ne_eqb}
 use Rattle.nl_types.specs.declared.error.VolError.TheVariants as error
 use Rattle.nl_types.specs.declared.row.Row.{Row}
-use Rattle.nl_types.specs.Protection.{expired, is_below}
-use Rattle.nl_types.specs.Rows.{is_snapshot, may_go, number_of}
+use Rattle.nl_types.specs.Plain.Protection.{expired, is_below}
+use Rattle.nl_types.specs.Plain.Rows.{is_snapshot, may_go, number_of}
 use Rattle.nl_cpfile.specs.declared.checkpoint.Checkpoint.{Checkpoint}
 use Rattle.nl_cpfile.specs.Tables.{IsRising, Precedes, checkpoint_row, rows_of}
 use Rattle.nl_protect.specs.Keeping.{first_plain, is_before, is_plain}

@@ -4,10 +4,10 @@ use Rattle.std.specs.Prelude.{◌||◌, slice_get}
 use Rattle.std.specs.List.{AllByRecursion, filter}
 use Rattle.std.specs.Option.{IfSome, is_none}
 use Rattle.std.proofs.lemmas.Bool.{cases_Bool, cases_lt, eqb-true, eq-eqb, le-leb, lt-ltb, ltb-true, ne_eqb, or_left, or_right}
-use Rattle.nl_types.specs.NeedLaws.{AreGone}
-use Rattle.nl_types.specs.NumberLists.{is_one_of}
-use Rattle.nl_types.specs.Protection.{expired, is_below, is_staying, staying_numbers}
-use Rattle.nl_types.specs.Rows.{is_snapshot, may_go, number_of}
+use Rattle.nl_types.specs.Blocks.NeedLaws.{AreGone}
+use Rattle.nl_types.specs.Plain.NumberLists.{is_one_of}
+use Rattle.nl_types.specs.Plain.Protection.{expired, is_below, is_staying, staying_numbers}
+use Rattle.nl_types.specs.Plain.Rows.{is_snapshot, may_go, number_of}
 use Rattle.nl_types.specs.declared.error.VolError.TheVariants as error
 use Rattle.nl_types.specs.declared.row.Row.{Row}
 use Rattle.nl_cpfile.specs.declared.checkpoint.Checkpoint.{Checkpoint}

@@ -8,9 +8,9 @@ use Rattle.std.proofs.lemmas.Bool.Decides.{nat_tests}
 use Rattle.std.proofs.lemmas.List.Sorted.{IsPermutation-reverse, list_any-IsPermutation}
 use Rattle.nl_types.specs.declared.period.Period.{Period}
 use Rattle.nl_types.specs.declared.row.Row.{Row}
-use Rattle.nl_types.specs.Protection as protection
-use Rattle.nl_types.specs.Entries.{holds, is_period_needed}
-use Rattle.nl_types.specs.Rows.{number_of}
+use Rattle.nl_types.specs.Plain.Protection as protection
+use Rattle.nl_types.specs.Blocks.Entries.{holds, is_period_needed}
+use Rattle.nl_types.specs.Plain.Rows.{number_of}
 use Rattle.nl_cpfile.specs.declared.checkpoint.Checkpoint.{Checkpoint}
 use Rattle.nl_cpfile.specs.Tables.{IsRising, Precedes, checkpoint_row, rows_of}
 use Rattle.nl_protect.specs.Keeping.{first_protected, stays_within, is_before, is_from, is_protected, is_staying}

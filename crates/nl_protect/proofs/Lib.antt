@@ -1,7 +1,4 @@
-mod Comments
-mod ConfigurationLaws
 mod Kept
 mod Expiring
 mod Gone
 mod Staying
-mod Numerals

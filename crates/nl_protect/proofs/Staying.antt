@@ -6,9 +6,9 @@ use Rattle.std.specs.Option.{option_map}
 use Rattle.std.proofs.lemmas.Bool.{false≢true, le-ltb, leb-true}
 use Rattle.nl_types.specs.declared.period.Period.{Period}
 use Rattle.nl_types.specs.declared.row.Row.{Row}
-use Rattle.nl_types.specs.Entries.{holds, is_period_needed}
-use Rattle.nl_types.specs.Protection as protection
-use Rattle.nl_types.specs.Rows.{number_of}
+use Rattle.nl_types.specs.Blocks.Entries.{holds, is_period_needed}
+use Rattle.nl_types.specs.Plain.Protection as protection
+use Rattle.nl_types.specs.Plain.Rows.{number_of}
 use Rattle.nl_cpfile.specs.declared.checkpoint.Checkpoint.{Checkpoint}
 use Rattle.nl_cpfile.specs.Tables.{IsRising, Precedes, checkpoint_row, rows_of}
 use Rattle.nl_protect.specs.Keeping.{first_staying, has_ended_by, is_staying}

@@ -2,8 +2,8 @@
 use Rattle.std.specs.Prelude.{ℕ, Bool, false, not, nat_le, nat_lt, List, Option, None, Some}
 use Rattle.std.specs.List.{filter, find, list_any}
 use Rattle.std.specs.Option.{option_map}
-use Rattle.nl_types.specs.Protection as protection
-use Rattle.nl_types.specs.Rows.{is_snapshot}
+use Rattle.nl_types.specs.Plain.Protection as protection
+use Rattle.nl_types.specs.Plain.Rows.{is_snapshot}
 use Rattle.nl_cpfile.specs.declared.checkpoint.Checkpoint.{Checkpoint}
 use Rattle.nl_cpfile.specs.Tables.{checkpoint_row}
 

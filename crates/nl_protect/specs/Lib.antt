@@ -1,4 +1,1 @@
-pub mod Configuration
-pub mod Laws
 pub mod Keeping
-pub mod Rounds

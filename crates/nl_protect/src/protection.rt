@@ -1,27 +1,27 @@
 //! Which checkpoints a protection period protects, and which pages the kept ones need.
 ghost use Rattle.std.specs.Prelude.{◌≡◌, ℕ, ◌<◌, ◌≤◌, ◌&&◌, true, unwrap_or, IfSome, slice_get};
 ghost use Rattle.std.specs.List.{AllByRecursion, filter, list_any};
-ghost use Rattle.nl_types.specs.Entries.{is_period_needed};
-ghost use Rattle.nl_types.specs.NeedLaws.{AreGone};
-ghost use Rattle.nl_types.specs.NumberLists.{is_one_of};
-ghost use Rattle.nl_types.specs.Protection as protection;
+ghost use Rattle.nl_types.specs.Blocks.Entries.{is_period_needed};
+ghost use Rattle.nl_types.specs.Blocks.NeedLaws.{AreGone};
+ghost use Rattle.nl_types.specs.Plain.NumberLists.{is_one_of};
+ghost use Rattle.nl_types.specs.Plain.Protection as protection;
 ghost use Rattle.nl_cpfile.specs.Tables as tables;
 ghost use Rattle.nl_protect.specs.Keeping.{first_plain, first_protected, first_staying, stays_within, has_ended_by, is_before, is_from, is_staying};
 
 use nl_cpfile::{Checkpoint, Checkpoints};
-use nl_types::{CheckpointNumber, Period};
+use nl_types::{CheckpointNumber, Moment, Period};
 
-fn is_protected(checkpoint: &Checkpoint, now: u64, period: u64) -> bool
+fn is_protected(checkpoint: &Checkpoint, now: Moment, period: u64) -> bool
     ensures { result ≡ protection.is_protected now period (tables.checkpoint_row checkpoint.now) }
 {
     match checkpoint.stamp.checked_add(period) {
-        Some(end) => now < end,
+        Some(end) => now.get() < end,
         None => true,
     }
 }
 
 /// The number of the first one that is protected, in a list whose stamps never fall.
-fn first_protected(kept: &[Checkpoint], now: u64, period: u64) -> Option<CheckpointNumber>
+fn first_protected(kept: &[Checkpoint], now: Moment, period: u64) -> Option<CheckpointNumber>
     requires { tables.IsRising kept.now }
     ensures { result ≡ first_protected now period kept.now }
 {
@@ -33,7 +33,7 @@ fn first_protected(kept: &[Checkpoint], now: u64, period: u64) -> Option<Checkpo
 /// The number of the first checkpoint that a protection period protects, or else of the latest one: plain
 /// checkpoints below it may go. A checkpoint is protected where its stamp and the period, in seconds, come to
 /// more than the moment. Takes no memory, and halves the list.
-pub fn boundary(kept: &Checkpoints, now: u64, period: u64) -> CheckpointNumber
+pub fn boundary(kept: &Checkpoints, now: Moment, period: u64) -> CheckpointNumber
     ensures boundary { result ≡ protection.boundary now period kept.now.table.latest.number
         (tables.rows kept.now.table) }
     ensures low { result ≤ kept.now.table.latest.number }

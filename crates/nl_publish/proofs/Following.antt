@@ -2,8 +2,8 @@
 use Rattle.std.proofs.Common.{◌≡◌, ℕ, ◌==◌, Bool, true, false, cond, List, [], ◌∷◌, ◌++◌, map, Option, None, Some, refl, ap, sym, ◌∙◌}
 use Rattle.std.specs.Prelude.{Result, Ok, Err, OnOk, OnErr}
 use Rattle.std.specs.Option.{ok_or}
-use Rattle.nl_types.specs.Calls.{and_then}
-use Rattle.nl_types.specs.Rows.{find_row, mode_change}
+use Rattle.nl_types.specs.Plain.Calls.{and_then}
+use Rattle.nl_types.specs.Plain.Rows.{find_row, mode_change}
 use Rattle.nl_types.specs.declared.error.VolError.{VolError}
 use Rattle.nl_types.specs.declared.error.VolError.TheVariants.{NoCheckpoint}
 use Rattle.nl_types.specs.declared.event.Mode.{Mode}

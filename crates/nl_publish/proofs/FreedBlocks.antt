@@ -6,16 +6,16 @@ use Rattle.std.proofs.Math.Nat.{mul-le-mul_right}
 use Rattle.std.proofs.lemmas.Bool.{and_parts, cases_lt, leb-true, ltb-true}
 use mathlib.Core.List.{IsPrefix}
 use Rattle.nl_types.specs.declared.segment.SegmentInfo.{SegmentInfo}
-use Rattle.nl_types.specs.Entries.{Entry, Place}
-use Rattle.nl_types.specs.Segments.{AreTidy, IsUsed, Segments, clean_info, info_of, is_clean}
-use Rattle.nl_types.specs.Roots.{Pages}
+use Rattle.nl_types.specs.Blocks.Entries.{Entry, Place}
+use Rattle.nl_types.specs.Blocks.Segments.{AreTidy, IsUsed, Segments, clean_info, info_of, is_clean}
+use Rattle.nl_types.specs.Blocks.Roots.{Pages}
 use Rattle.nl_types.specs.Facts.SegmentChanges.{room_of, tidy_at}
 use Rattle.nl_layout.specs.Root.{root_of}
 use Rattle.nl_vstore.specs.Stores.{IsStore, Numbered, Store, address_in, block_now, entry_now, is_inside, numbered_in}
 use Rattle.nl_files.specs.Facts.Staying.{root-sound}
 use Rattle.nl_cpfile.specs.Tables.{checkpoint_root, kept_at}
 use Rattle.nl_cpfile.specs.declared.checkpoint.Checkpoint.{Checkpoint}
-use Rattle.nl_commit.specs.Commits.{AllNext, IsHistory, IsImage, IsNext, applied, image_of}
+use Rattle.nl_commit.specs.Commits.{AllNext, IsHistory, IsShownImage, IsNext, applied, shown_after}
 use Rattle.nl_commit.specs.Layout.{Layout, layout_pages, ledger_of, reached_by}
 use Rattle.nl_commit.specs.Notes.{shown_of}
 use Rattle.nl_commit.specs.Shown.{Shown, mounted_on, nothing, pages_shown}
@@ -33,7 +33,7 @@ some-of : (o : Option (List ℕ)) → IsSome o → (page : List ℕ) × (o ≡ S
 some-of (Some page) some = (page, refl)
 some-of None some = absurd cc
 
-page-in : (x : Shown) (n v : ℕ) → IsImage x → MayRead x n v
+page-in : (x : Shown) (n v : ℕ) → IsShownImage x → MayRead x n v
     → (page : List ℕ) × (pages_shown x v ≡ Some page)
 page-in x n v image reads =
     let root = root_of (checkpoint_root reads.checkpoint) in
@@ -77,23 +77,23 @@ module _ (n v : ℕ) (q : Place) (page : List ℕ) where
 -- a history goes on from another
 record GoesOn (log later : List Commit) : Type 0 where
   more : List Commit
-  next : AllNext (image_of log) more
-  at : fold applied (image_of log) more ≡ image_of later
+  next : AllNext (shown_after log) more
+  at : fold applied (shown_after log) more ≡ shown_after later
 
 goes_on : (log later : List Commit) → IsHistory log → IsHistory later → IsPrefix log later → GoesOn log later
 goes_on log later began history prefix = record {
   more = prefix.0;
   next = rest_of log prefix.0 (subst IsHistory (sym prefix.1) history) began;
-  at = sym (fold-grows nothing log prefix.0) ∙ ap image_of prefix.1;
+  at = sym (fold-grows nothing log prefix.0) ∙ ap shown_after prefix.1;
 }
 
 module _ (log later : List Commit) (n v : ℕ) (began : IsHistory log) (history : IsHistory later)
-    (prefix : IsPrefix log later) (reads : MayRead (image_of log) n v) where
+    (prefix : IsPrefix log later) (reads : MayRead (shown_after log) n v) where
   abbrev x : Shown
-  x = image_of log
+  x = shown_after log
 
   abbrev y : Shown
-  y = image_of later
+  y = shown_after later
 
   on : GoesOn log later
   on = goes_on log later began history prefix
@@ -207,16 +207,16 @@ stands l v page store is =
 -- ---- under the lock
 
 module _ (h : HeldPen) (log : List Commit) (n v : ℕ) (sound : IsSoundState h) (history : IsHistory log)
-    (prefix : IsPrefix log h.history) (reads : MayRead (image_of log) n v)
-    (has : StillHas (image_of log) (shown_of h.layout) n) where
+    (prefix : IsPrefix log h.history) (reads : MayRead (shown_after log) n v)
+    (has : StillHas (shown_after log) (shown_of h.layout) n) where
   abbrev l : Layout
   l = h.layout
 
   abbrev page-read : List ℕ
-  page-read = (page-in (image_of log) n v (history_image log history) reads).0
+  page-read = (page-in (shown_after log) n v (history_image log history) reads).0
 
-  has_in : StillHas (image_of log) (image_of h.history) n
-  has_in = subst (λ (y : Shown). StillHas (image_of log) y n) sound.told.shown has
+  has_in : StillHas (shown_after log) (shown_after h.history) n
+  has_in = subst (λ (y : Shown). StillHas (shown_after log) y n) sound.told.shown has
 
   -- what the pen has of the checkpoint
   record IsInPen : Type 0 where
@@ -249,7 +249,7 @@ module _ (h : HeldPen) (log : List Commit) (n v : ℕ) (sound : IsSoundState h) 
 
 pub read_pages_stand : ReadPagesStand
 read_pages_stand h log n v sound history prefix reads =
-    let page = page-in (image_of log) n v (history_image log history) reads in
+    let page = page-in (shown_after log) n v (history_image log history) reads in
     record {
       page = page.0;
       shown = page.1;
@@ -268,4 +268,4 @@ retirements_spare_read_pages old new segment answer log n v sound history prefix
 pub read_pages_stay : ReadPagesStay
 read_pages_stay log later n v began history prefix reads has =
     (at_later log later n v began history prefix reads has).shown
-    ∙ sym (page-in (image_of log) n v (history_image log began) reads).1
+    ∙ sym (page-in (shown_after log) n v (history_image log began) reads).1

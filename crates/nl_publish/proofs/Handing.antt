@@ -10,7 +10,7 @@ use Rattle.nl_publish.specs.declared.image.Image.{Image}
 use Rattle.nl_publish.specs.declared.image.Entry.{Entry}
 use Rattle.nl_publish.specs.Histories.{Known}
 use Rattle.nl_publish.specs.Images.{HasShown, absorbed}
-use Rattle.nl_publish.specs.Locks.{HeldPen, IsHeld, Keeps, listed}
+use Rattle.nl_publish.specs.Locks.{HeldPen, IsHeld, StaysHeld, listed}
 use Rattle.nl_publish.specs.Noting.{EntryComes, Noted, WasLeft}
 use Rattle.nl_publish.specs.Refusals.{HasRefused}
 use Rattle.nl_publish.proofs.Counting.{refused_left}
@@ -71,10 +71,10 @@ module _ (book : ℕ → Book) (unsent : Option Entry) (noted noted' : Known) (w
 
   pub comes_keeps : (p p' : Image) (after : Option Entry) (was : Option ℕ) (layout : Layout) (n n' : ℕ)
       → EntryComes book unsent noted waiting noted' waiting' e → p' ≡ p → n ≤ n'
-      → Keeps (held_view p noted unsent waiting was layout n) (held_view p' noted' after waiting' was layout n')
+      → StaysHeld (held_view p noted unsent waiting was layout n) (held_view p' noted' after waiting' was layout n')
   comes_keeps p p' after was layout n n' comes image less =
       subst (λ (q : Image).
-      Keeps (held_view p noted unsent waiting was layout n) (held_view q noted' after waiting' was layout n'))
+      StaysHeld (held_view p noted unsent waiting was layout n) (held_view q noted' after waiting' was layout n'))
       (sym image)
       (keeps_noted (held_view p noted unsent waiting was layout n) noted'.volume (noted'.commits ++ waiting')
       (length (listed after) + length waiting') n' (comes_volume comes) (comes_history comes) less)
@@ -93,7 +93,7 @@ module _ (book : ℕ → Book) (log log' : ℕ) (unsent unsent' : Option Entry) 
       (subst (λ (l : List Commit). IsHeld book log p (us ++ listed unsent) noted l pen) (sym waits) h)))
 
   pub nothing_keeps : (p : Image) (was : Option ℕ) (layout : Layout) (n n' : ℕ) → n ≤ n'
-      → Keeps (held_view p noted unsent waiting was layout n) (held_view p noted' unsent' waiting' was layout n')
+      → StaysHeld (held_view p noted unsent waiting was layout n) (held_view p noted' unsent' waiting' was layout n')
   nothing_keeps p was layout n n' less =
       keeps_noted (held_view p noted unsent waiting was layout n) noted'.volume (noted'.commits ++ waiting')
       (length (listed unsent') + length waiting') n' (ap (λ (k : Known). k.volume) left)

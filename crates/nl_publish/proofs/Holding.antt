@@ -6,17 +6,17 @@ use Rattle.std.proofs.lemmas.Bool.Decides.{nat_tests}
 use mathlib.Core.List.{IsPrefix}
 use Rattle.logbook.specs.Pages.{Book}
 use Rattle.nl_types.specs.declared.event.Event.{Event}
-use Rattle.nl_types.specs.Worlds.{Reply}
+use Rattle.nl_types.specs.Plain.Worlds.{Reply}
 use Rattle.nl_commit.specs.declared.commit.Commit.{Commit}
 use Rattle.nl_commit.specs.Shown.{Shown, nothing}
-use Rattle.nl_commit.specs.Commits.{AllNext, IsHistory, applied, image_of}
+use Rattle.nl_commit.specs.Commits.{AllNext, IsHistory, applied, shown_after}
 use Rattle.nl_commit.specs.Layout.{Layout}
 use Rattle.nl_commit.specs.Notes.{shown_of}
 use Rattle.nl_publish.specs.declared.image.Image.{Image}
 use Rattle.nl_publish.specs.declared.image.Entry.{Entry}
 use Rattle.nl_publish.specs.Histories.{IsBegun, Known}
 use Rattle.nl_publish.specs.Images.{IsNextEntry, AreNext, absorbed}
-use Rattle.nl_publish.specs.Locks.{IsHeld, IsTold, NotedStep}
+use Rattle.nl_publish.specs.Locks.{IsHeld, IsHeldPen, NotedStep}
 use Rattle.nl_publish.proofs.Fronts.{prefix_self, prefix_length, prefix_trans, prefix_whole}
 use Rattle.nl_publish.specs.Facts.Growing.{begun_more, fold-grows, history_more, history_start}
 use Rattle.nl_publish.proofs.Keeping.{fold_whole, fold_book, fold_prefix}
@@ -93,7 +93,7 @@ module _ (book : ℕ → Book) (log : ℕ) where
           shown_is =
               is.noted.image
               ∙ (ap (λ (x : Shown). fold applied x is.more) h.shown_is
-              ∙ (sym (fold-grows nothing (noted.commits ++ waiting) is.more) ∙ ap image_of (sym log_is)));
+              ∙ (sym (fold-grows nothing (noted.commits ++ waiting) is.more) ∙ ap shown_after (sym log_is)));
         }
 
     -- the first commit that waits is noted
@@ -126,7 +126,7 @@ module _ (book : ℕ → Book) (log : ℕ) where
           next = next_more p es e h.next one;
           last = sym log_is ∙ ap (λ (q : Image). q.seen.log) (sym (fold_append p es (e ∷ [])));
           history = history;
-          shown_is = h.shown_is ∙ ap image_of all;
+          shown_is = h.shown_is ∙ ap shown_after all;
         }
 
     -- where nothing waits, a published history as long as the noted one is all
@@ -166,7 +166,7 @@ module _ (book : ℕ → Book) (log : ℕ) where
     -- a beginning of the history is published
     pub told : (waiting : List Commit) (layout : Layout) (volume unsent refusals : ℕ) (lost : Option ℕ)
         → IsHeld book log p es noted waiting (shown_of layout)
-        → IsTold (record {
+        → IsHeldPen (record {
           volume = volume;
           published = p.seen.log;
           history = noted.commits ++ waiting;

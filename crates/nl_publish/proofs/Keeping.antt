@@ -10,7 +10,7 @@ use Rattle.nl_publish.specs.declared.image.Image.{Image}
 use Rattle.nl_publish.specs.declared.image.Entry.{Entry}
 use Rattle.nl_commit.specs.Shown.{Shown}
 use Rattle.nl_commit.specs.Commits.{applied}
-use Rattle.nl_commit.specs.Commits.{image_of}
+use Rattle.nl_commit.specs.Commits.{shown_after}
 use Rattle.nl_publish.specs.Images.{Knows, Kept, Looks, Learns, IsWhole, IsNextEntry, AreNext, absorbed, name_of}
 use Rattle.nl_publish.proofs.Fronts.{prefix_self, prefix_trans}
 use Rattle.nl_publish.specs.Facts.Growing.{fold-grows}
@@ -21,7 +21,7 @@ pub absorbs_whole : (i : Image) (e : Entry) → IsWhole i → IsNextEntry i e �
 absorbs_whole i e w n = record {
   shown =
       ap (λ (x : Shown). applied x e.commit) w.shown
-      ∙ (sym (fold-grows _ i.seen.log (e.commit ∷ [])) ∙ ap image_of (sym n.log));
+      ∙ (sym (fold-grows _ i.seen.log (e.commit ∷ [])) ∙ ap shown_after (sym n.log));
   count = n.count;
   history = n.history;
 }

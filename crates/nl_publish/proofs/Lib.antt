@@ -8,3 +8,4 @@ pub mod Handing
 pub mod Copies
 pub mod Following
 pub mod FreedBlocks
+pub mod ToldSegments

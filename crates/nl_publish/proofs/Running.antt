@@ -4,8 +4,10 @@ use Rattle.nl_types.specs.declared.event.Event.{Event}
 use Rattle.nl_types.specs.declared.event.Event.TheVariants.{Mount, Unmount}
 use Rattle.nl_types.specs.declared.error.VolError.{VolError}
 use Rattle.nl_types.specs.declared.reply.Answer.{Answer}
-use Rattle.nl_types.specs.Runs.{Run}
-use Rattle.nl_types.specs.Worlds.{Reply}
+use Rattle.nl_types.specs.declared.reply.Answer.TheVariants as answer
+use Rattle.nl_types.specs.Plain.Runs.{Run}
+use Rattle.nl_types.specs.Plain.Worlds.{Reply}
+use Rattle.nl_calls.specs.Replies.{IsReplyWith}
 use Rattle.nl_commit.specs.Layout.{Does, IsPen}
 use Rattle.nl_commit.specs.Notes.{shared}
 use Rattle.nl_commit.specs.declared.commit.Commit.{Commit}
@@ -14,7 +16,7 @@ use Rattle.nl_commit.specs.Facts.Leading.{runs_lead_on}
 use Rattle.nl_commit.specs.Facts.MountEvents.{answers-mount}
 use Rattle.nl_publish.specs.Histories.{EndsWith}
 use Rattle.nl_publish.specs.Refusals.{HasRefused}
-use Rattle.nl_publish.specs.Locks.{Begins, Done, Finished, Goes, GoesBy, HeldPen, IsClear, IsHeldBack, IsMountReply, IsPending, IsReady, IsTried, Keeps, Lost, LostComesBack, MountGoes, MountRan, MountReply, Mounted, NotedStep, Pending, Ran, Refused, State, Stuck, as_replies, given_back, mount_reply, state_of}
+use Rattle.nl_publish.specs.Locks.{Begins, Done, Finished, Goes, GoesBy, HeldPen, IsClear, IsHeldBack, IsPending, IsReady, IsTried, StaysHeld, Lost, LostComesBack, MountGoes, MountRan, MountReply, Mounted, NotedStep, Pending, Ran, Refused, State, Stuck, as_replies, given_back, mount_reply, state_of}
 use Rattle.nl_publish.specs.Told.{LockedRunsLeadOn}
 use Rattle.nl_publish.proofs.Counting.{refused_on}
 use Rattle.nl_publish.proofs.Fronts.{prefix_self, prefix_trans}
@@ -50,16 +52,16 @@ goes_still a b c es rs p q = record {
 }
 
 -- nothing ran, twice
-pub keeps_on : (a b c : HeldPen) → Keeps a b → Keeps b c → Keeps a c
+pub keeps_on : (a b c : HeldPen) → StaysHeld a b → StaysHeld b c → StaysHeld a c
 keeps_on a b c p q = (goes_still a b c [] [] p.0 q.0, q.1 ∙ p.1)
 
-pub keeps_same : (a b : HeldPen) → b ≡ a → Keeps a b
-keeps_same a b same = subst (λ (h : HeldPen). Keeps h b) same (stays b, refl)
+pub keeps_same : (a b : HeldPen) → b ≡ a → StaysHeld a b
+keeps_same a b same = subst (λ (h : HeldPen). StaysHeld h b) same (stays b, refl)
 
 -- commits that waited are noted, or handed over
 pub keeps_noted : (a : HeldPen) (volume : ℕ) (history : List Commit) (unsent refusals : ℕ)
     → volume ≡ a.volume → history ≡ a.history → a.refusals ≤ refusals
-    → Keeps a (record {
+    → StaysHeld a (record {
       volume = volume;
       published = a.published;
       history = history;
@@ -78,7 +80,7 @@ keeps_noted a volume history unsent refusals same all less = (
   refl,
 )
 
-pub goes_by_still : (a b c : HeldPen) (event : Event) (r : Reply) → GoesBy a event r b → Keeps b c
+pub goes_by_still : (a b c : HeldPen) (event : Event) (r : Reply) → GoesBy a event r b → StaysHeld b c
     → GoesBy a event r c
 goes_by_still a b c event r p q = (goes_still a b c (event ∷ []) (r ∷ []) p.0 q.0, q.1 ∙ p.1)
 
@@ -150,14 +152,14 @@ pending_on a b c less pending = record {
 }
 
 -- a lost mount is back, and then all is published, or not
-pub ready_still : (a b c : HeldPen) → IsReady a b → Keeps b c → IsReady a c
+pub ready_still : (a b c : HeldPen) → IsReady a b → StaysHeld b c → IsReady a c
 ready_still a b c begun more = record {
   backs = begun.backs;
   goes = goes_still a b c (given_back a.lost) (as_replies begun.backs) begun.goes more.0;
   lost = more.1 ∙ begun.lost;
 }
 
-pub begins_then : (a b c : HeldPen) (r : Result (Unit {0}) VolError) → LostComesBack a r b → Keeps b c
+pub begins_then : (a b c : HeldPen) (r : Result (Unit {0}) VolError) → LostComesBack a r b → StaysHeld b c
     → IsTried b c → Begins a r c
 begins_then a b c (Ok u) back more tried = ready_still a b c back more
 begins_then a b c (Err e) back more tried = (
@@ -183,7 +185,7 @@ pub stepped_tried : (a b c d : HeldPen) (event : Event) (r : Reply) → IsReady 
 stepped_tried a b c d event r begun here tried =
     tried_on a c d (omega (arith, begun.goes.counts, here.0.counts)) tried
 
-pub ran : (a b c d : HeldPen) (event : Event) (r : Reply) → IsReady a b → GoesBy b event r c → Keeps c d
+pub ran : (a b c d : HeldPen) (event : Event) (r : Reply) → IsReady a b → GoesBy b event r c → StaysHeld c d
     → IsTried c d → Ran a event r d
 ran a b c d event r begun here more tried =
     let back = given_back a.lost in
@@ -218,7 +220,7 @@ pub pending_still : (a b c : HeldPen) → IsReady a b → IsTried b c → c.publ
 pending_still a b c begun tried apart =
     pending_on a b c begun.goes.counts (is_pending b c tried apart)
 
-pub clear : (a b c : HeldPen) → IsReady a b → Keeps b c → c.published ≡ c.history → IsClear a c
+pub clear : (a b c : HeldPen) → IsReady a b → StaysHeld b c → c.published ≡ c.history → IsClear a c
 clear a b c begun more all = record { ready = ready_still a b c begun more; settled = all }
 
 -- nothing is lost before the mount's own commit is published
@@ -269,7 +271,7 @@ has_mounted a b k n r is (Stuck stuck reply) = absurd (cc (is, reply))
 
 -- a mount that is not refused answers a mount
 pub is_mount_reply : (a b : HeldPen) (k : ℕ) (r : Reply) → IsPen a.layout → GoesBy a (Mount k) r b
-    → IsMountReply r
+    → IsReplyWith answer.Mount r
 is_mount_reply a b k (Ok x) pen goes =
     (a.layout.lists.given + 1, answers-mount shared a.layout goes.0.runs.0.0 k x pen goes.0.runs.1.does)
 is_mount_reply a b k (Err e) pen goes = tt

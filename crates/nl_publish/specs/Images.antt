@@ -3,7 +3,7 @@ use Rattle.std.specs.Prelude.{ℕ, ◌≡◌, ◌⊎◌, ◌++◌, Bool, List, [
 use mathlib.Core.Option.{some}
 use lib.ListN.{get_elem?}
 use Rattle.logbook.specs.Pages.{Book}
-use Rattle.nl_commit.specs.Commits.{IsHistory, applied, image_of}
+use Rattle.nl_commit.specs.Commits.{IsHistory, applied, shown_after}
 use Rattle.nl_publish.specs.declared.image.Image.{Image}
 use Rattle.nl_publish.specs.declared.image.Entry.{Entry}
 use Rattle.nl_publish.specs.Histories.{Known}
@@ -14,7 +14,7 @@ absorbed i e = record { tables = applied i.tables e.commit; count = e.count; see
 
 -- the image is what its history makes
 pub record IsWhole (i : Image) : Type 0 where
-  pub shown : i.tables ≡ image_of i.seen.log
+  pub shown : i.tables ≡ shown_after i.seen.log
   pub count : i.count ≡ length i.seen.log
   pub history : IsHistory i.seen.log
 

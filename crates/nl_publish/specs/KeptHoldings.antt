@@ -6,7 +6,7 @@ use Rattle.nl_tree.specs.Held.{Holding}
 use Rattle.nl_files.specs.CheckpointTrees.{HoldsTree}
 use Rattle.nl_cpfile.specs.Tables.{kept_at, checkpoint_root}
 use Rattle.nl_cpfile.specs.declared.checkpoint.Checkpoint.{Checkpoint}
-use Rattle.nl_commit.specs.Commits.{IsHistory, image_of}
+use Rattle.nl_commit.specs.Commits.{IsHistory, shown_after}
 use Rattle.nl_commit.specs.Shown.{Shown, pages_shown}
 use Rattle.nl_commit.specs.declared.commit.Commit.{Commit}
 use Rattle.nl_publish.specs.Histories.{IsBegun}
@@ -21,9 +21,9 @@ pub record HoldsOn (x : Shown) (n : ℕ) (held : Holding) : Type 0 where
 -- a checkpoint that is still kept in a history that goes on holds what it held, inode by inode
 abbrev pub KeptHoldingsStay : Type 0
 KeptHoldingsStay = (log later : List Commit) (n : ℕ) (held now : Holding) → IsHistory log → IsBegun later
-    → IsPrefix log later → HoldsOn (image_of log) n held → HoldsOn (image_of later) n now → now ≡ held
+    → IsPrefix log later → HoldsOn (shown_after log) n held → HoldsOn (shown_after later) n now → now ≡ held
 
 -- a mount's checkpoint held something when the mount was told
 abbrev pub MountsHold : Type 0
 MountsHold = (m : Claim) → IsClaim m → IsBegun m.told.commits
-    → IsHistory m.told.commits × ((held : Holding) × HoldsOn (image_of m.told.commits) m.checkpoint held)
+    → IsHistory m.told.commits × ((held : Holding) × HoldsOn (shown_after m.told.commits) m.checkpoint held)

@@ -7,6 +7,7 @@ pub mod Noting
 pub mod Locks
 pub mod Begun
 pub mod Cleaning
+pub mod SegmentViews
 pub mod Mounts
 pub mod Returns
 pub mod Told

@@ -8,9 +8,9 @@ use Rattle.nl_types.specs.declared.event.Event.{Event}
 use Rattle.nl_types.specs.declared.event.Event.TheVariants.{Mount, Unmount}
 use Rattle.nl_types.specs.declared.reply.Answer.{Answer}
 use Rattle.nl_types.specs.declared.reply.Answer.TheVariants as answer
-use Rattle.nl_types.specs.Runs.{Run}
-use Rattle.nl_types.specs.Worlds.{Reply}
-use Rattle.nl_commit.specs.Commits.{IsHistory, image_of}
+use Rattle.nl_types.specs.Plain.Runs.{Run}
+use Rattle.nl_types.specs.Plain.Worlds.{Reply}
+use Rattle.nl_commit.specs.Commits.{IsHistory, shown_after}
 use Rattle.nl_commit.specs.Layout.{IsPen, Layout}
 use Rattle.nl_commit.specs.Notes.{DoesNoting, shown_of}
 use Rattle.nl_commit.specs.Shown.{Shown}
@@ -50,17 +50,17 @@ pub record IsHeld (book : ℕ → Book) (log : ℕ) (image : Image) (entries : L
   pub next : AreNext image entries
   pub last : noted.commits ≡ (fold absorbed image entries).seen.log
   pub history : IsHistory (noted.commits ++ waiting)
-  pub shown_is : shown ≡ image_of (noted.commits ++ waiting)
+  pub shown_is : shown ≡ shown_after (noted.commits ++ waiting)
 
 -- what is true of whatever lies under a lock: the equation, and how much of the history is published
-pub record IsTold (h : HeldPen) : Type 0 where
+pub record IsHeldPen (h : HeldPen) : Type 0 where
   pub history : IsHistory h.history
-  pub shown : shown_of h.layout ≡ image_of h.history
+  pub shown : shown_of h.layout ≡ shown_after h.history
   pub published : IsPrefix h.published h.history
 
 -- so it is sound: its pen means a world, and that is true of it
 pub record IsSoundState (h : HeldPen) : Type 0 where
-  pub told : IsTold h
+  pub told : IsHeldPen h
   pub pen : IsPen h.layout
 
 -- ---- events, with the history that they make
@@ -83,8 +83,8 @@ pub record Goes (old : HeldPen) (events : List Event) (replies : List Reply) (ne
   pub counts : old.refusals ≤ new.refusals
 
 -- nothing ran, and the same mount is lost
-abbrev pub Keeps : HeldPen → HeldPen → Type 0
-Keeps old new = Goes old [] [] new × (new.lost ≡ old.lost)
+abbrev pub StaysHeld : HeldPen → HeldPen → Type 0
+StaysHeld old new = Goes old [] [] new × (new.lost ≡ old.lost)
 
 -- one event ran
 abbrev pub GoesBy : HeldPen → Event → Reply → HeldPen → Type 0
@@ -171,11 +171,6 @@ MountReply = Result ℕ VolError
 
 abbrev pub mount_reply : ℕ → Reply
 mount_reply m = Ok (answer.Mount m)
-
--- an event that mounts is answered by a mount, where it isn't refused
-abbrev pub IsMountReply : Reply → Type 0
-IsMountReply (Ok a) = (m : ℕ) × (a ≡ answer.Mount m)
-IsMountReply (Err e) = Unit {0}
 
 -- a checkpoint was mounted in the pen alone, or that was refused
 abbrev pub MountGoes : HeldPen → ℕ → MountReply → HeldPen → Type 0

@@ -3,12 +3,12 @@ use Rattle.std.specs.Prelude.{◌≡◌, ℕ, true, false, List, [], ◌∷◌, 
 use mathlib.Core.List.{IsPrefix}
 use Rattle.nl_types.specs.declared.event.Event.TheVariants.{Retire}
 use Rattle.nl_types.specs.declared.reply.Answer.{Answer}
-use Rattle.nl_types.specs.Entries.{Place}
-use Rattle.nl_types.specs.Segments.{info_of, is_clean}
+use Rattle.nl_types.specs.Blocks.Entries.{Place}
+use Rattle.nl_types.specs.Blocks.Segments.{info_of, is_clean}
 use Rattle.nl_vstore.specs.Stores.{Store, address_in, device_in, is_inside}
 use Rattle.nl_cpfile.specs.Tables.{kept_at}
 use Rattle.nl_cpfile.specs.declared.checkpoint.Checkpoint.{Checkpoint}
-use Rattle.nl_commit.specs.Commits.{IsHistory, image_of}
+use Rattle.nl_commit.specs.Commits.{IsHistory, shown_after}
 use Rattle.nl_commit.specs.Layout.{reached_by}
 use Rattle.nl_commit.specs.Notes.{shown_of}
 use Rattle.nl_commit.specs.Shown.{Shown, mounted_on, pages_shown}
@@ -51,14 +51,14 @@ pub record IsReadable (x : Shown) (h : HeldPen) (n v : ℕ) : Type 0 where
 abbrev pub ReadPagesStand : Type 0
 ReadPagesStand =
     (h : HeldPen) (log : List Commit) (n v : ℕ) → IsSoundState h → IsHistory log → IsPrefix log h.history
-    → MayRead (image_of log) n v → IsReadable (image_of log) h n v
+    → MayRead (shown_after log) n v → IsReadable (shown_after log) h n v
 
 -- A retirement frees no segment where such a page stands.
 abbrev pub RetirementsSpareReadPages : Type 0
 RetirementsSpareReadPages =
     (old new : HeldPen) (segment : ℕ) (answer : Answer) (log : List Commit) (n v : ℕ) → IsSoundState old
-    → IsHistory log → IsPrefix log old.history → MayRead (image_of log) n v
-    → StillHas (image_of log) (shown_of old.layout) n
+    → IsHistory log → IsPrefix log old.history → MayRead (shown_after log) n v
+    → StillHas (shown_after log) (shown_of old.layout) n
     → Goes old (Retire segment ∷ []) (Ok answer ∷ []) new
     → is_inside old.layout.store.segments segment (address_in old.layout.store v) ≡ false
 
@@ -66,5 +66,5 @@ RetirementsSpareReadPages =
 abbrev pub ReadPagesStay : Type 0
 ReadPagesStay =
     (log later : List Commit) (n v : ℕ) → IsHistory log → IsHistory later → IsPrefix log later
-    → MayRead (image_of log) n v → StillHas (image_of log) (image_of later) n
-    → pages_shown (image_of later) v ≡ pages_shown (image_of log) v
+    → MayRead (shown_after log) n v → StillHas (shown_after log) (shown_after later) n
+    → pages_shown (shown_after later) v ≡ pages_shown (shown_after log) v

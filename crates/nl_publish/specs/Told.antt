@@ -2,18 +2,18 @@
 use Rattle.std.specs.Prelude.{◌≡◌, ◌<◌, ℕ, List, None, Some, length}
 use mathlib.Core.List.{IsPrefix}
 use Rattle.nl_types.specs.declared.event.Event.{Event}
-use Rattle.nl_types.specs.Trees.{Tree}
-use Rattle.nl_types.specs.Worlds.{Copy, Reply, World, copy_at}
+use Rattle.nl_types.specs.Plain.Trees.{Tree}
+use Rattle.nl_types.specs.Plain.Worlds.{Copy, Reply, World, copy_at}
 use Rattle.nl_cpfile.specs.Tables.{kept_at, checkpoint_root}
 use Rattle.nl_cpfile.specs.declared.checkpoint.Checkpoint.{Checkpoint}
-use Rattle.nl_commit.specs.Commits.{IsHistory, IsImage, image_of}
+use Rattle.nl_commit.specs.Commits.{IsHistory, IsShownImage, shown_after}
 use Rattle.nl_commit.specs.Layout.{MeansWorld, Runs}
 use Rattle.nl_commit.specs.Means.{RootMeans}
 use Rattle.nl_commit.specs.Notes.{shared}
 use Rattle.nl_commit.specs.Shown.{Shown, mounted_on, pages_shown}
 use Rattle.nl_commit.specs.declared.commit.Commit.{Commit}
 use Rattle.nl_publish.specs.Histories.{IsBegun}
-use Rattle.nl_publish.specs.Locks.{Goes, HeldPen, IsTold}
+use Rattle.nl_publish.specs.Locks.{Goes, HeldPen, IsHeldPen}
 use Rattle.nl_publish.specs.Mounts.{Claim, IsClaim}
 
 -- a kept checkpoint means the tree
@@ -34,34 +34,34 @@ ShowsWorld x w = (n : ℕ) (copy : Copy) → copy_at w n ≡ Some copy → TreeO
 
 -- so does what is published, where it is all of the history, of each world that the pen means
 abbrev pub PublishedWorldsAreShown : Type 0
-PublishedWorldsAreShown = (h : HeldPen) (w : World) → IsTold h → h.published ≡ h.history → MeansWorld h.layout w
-    → ShowsWorld (image_of h.published) w
+PublishedWorldsAreShown = (h : HeldPen) (w : World) → IsHeldPen h → h.published ≡ h.history → MeansWorld h.layout w
+    → ShowsWorld (shown_after h.published) w
 
 -- a checkpoint that is still kept has the trees that it had
 abbrev pub KeptTreesStay : Type 0
 KeptTreesStay = (log later : List Commit) (n : ℕ) (t : Tree) (c : Checkpoint) → IsHistory log → IsBegun later
-    → IsPrefix log later → TreeOn (image_of log) n t → kept_at n (image_of later).table ≡ Some c
-    → TreeOn (image_of later) n t
+    → IsPrefix log later → TreeOn (shown_after log) n t → kept_at n (shown_after later).table ≡ Some c
+    → TreeOn (shown_after later) n t
 
 -- a history shows an image
 abbrev pub HistoriesShowImages : Type 0
-HistoriesShowImages = (log : List Commit) → IsHistory log → IsImage (image_of log)
+HistoriesShowImages = (log : List Commit) → IsHistory log → IsShownImage (shown_after log)
 
 -- what a mount shows: the checkpoint that it names, with each tree that this had when the mount was told
 pub record ShowsTold (m : Claim) (log : List Commit) (n : ℕ) : Type 0 where
   pub checkpoint : n ≡ m.checkpoint
-  pub trees : (t : Tree) → TreeOn (image_of m.told.commits) m.checkpoint t → TreeOn (image_of log) n t
+  pub trees : (t : Tree) → TreeOn (shown_after m.told.commits) m.checkpoint t → TreeOn (shown_after log) n t
 
 -- so it is in every history that goes on from what the mount was told
 abbrev pub MountsStay : Type 0
 MountsStay = (m : Claim) (log : List Commit) (n : ℕ) → IsClaim m → IsHistory log → IsPrefix m.told.commits log
-    → mounted_on (image_of log) m.number ≡ Some n → ShowsTold m log n
+    → mounted_on (shown_after log) m.number ≡ Some n → ShowsTold m log n
 
 -- and in none that ends before the mount's own commit is the mount shown
 abbrev pub MountsBegin : Type 0
 MountsBegin = (m : Claim) (log : List Commit) → IsClaim m → IsBegun m.told.commits → IsHistory log
     → IsPrefix log m.told.commits → length log < length m.told.commits
-    → mounted_on (image_of log) m.number ≡ None
+    → mounted_on (shown_after log) m.number ≡ None
 
 -- what ran under the lock leads on beside each world that the pen meant
 abbrev pub LockedRunsLeadOn : Type 0

@@ -5,15 +5,16 @@ ghost use Rattle.nl_publish.specs.Locks.{listed};
 ghost use Rattle.nl_publish.specs.Noting.{EntryComes, IsNotedEntry};
 ghost use Rattle.nl_publish.specs.Refusals.{HasRefused};
 
-use crate::history::{Front, Record, Volumes};
+use crate::history::{Front, HistoryLog};
 use crate::image::Entry;
+use crate::protocol::Volumes;
 use nl_commit::Commit;
 
 /// Notes the first commit that waits. Where the history takes no more of them nothing changes, but that this is
 /// counted.
 fn note_first<J: Volumes>(
     noted: &mut Front<J>,
-    log: &mut Record<J>,
+    log: &mut HistoryLog<J>,
     waiting: &mut Vec<Commit>,
 ) -> Option<Entry>
     requires volume { log.old.volume ≡ noted.old.volume }
@@ -44,7 +45,7 @@ fn note_first<J: Volumes>(
 pub(crate) fn next_entry<J: Volumes>(
     unsent: &mut Option<Entry>,
     noted: &mut Front<J>,
-    log: &mut Record<J>,
+    log: &mut HistoryLog<J>,
     waiting: &mut Vec<Commit>,
 ) -> Option<Entry>
     requires volume { log.old.volume ≡ noted.old.volume }

@@ -9,78 +9,19 @@ ghost use Rattle.nl_publish.specs.Images.{IsWhole};
 
 use crate::image::Image;
 use crate::press::count_refusal;
-use logbook::{Gain, Offer, Plain, Play, Rule, Seen, Start, Word};
+use crate::protocol::{HistoryWord, SeenHistory, Volumes, add_commit, open_book};
 use nl_commit::Commit;
-use std::marker::{Brand, Model, PhantomData};
+use std::marker::{Model, PhantomData};
 
 /// A history has no more commits. The word counts up to it.
 const MOST: u64 = 1 << 62;
-
-/// The rule of the book: it has a history, or nothing of it yet, and its word is the length.
-pub struct Law;
-
-impl Rule<Commit, u64> for Law {
-    ghost use Rattle.std.specs.Prelude.{[]};
-    ghost use base.Fml.{ftrue};
-    ghost use Rattle.nl_publish.specs.Rules.{IsRecorded};
-
-    ghost holds = { λ cells log. IsRecorded cells log };
-
-    ghost first = { [] };
-
-    ghost hinted = { λ n log. Unit {0} };
-
-    ghost shows = { λ log. [] };
-
-    ghost keeps = { λ names log. ftrue };
-
-    ghost moves = { λ ask before after answer. Unit {0} };
-}
-
-/// Who adds to a book trades nothing.
-pub struct Nothing;
-
-impl Gain<Commit, u64> for Nothing {
-    ghost use base.Fml.{ftrue};
-
-    ghost after = { λ names about answer. ftrue };
-}
-
-/// A step that adds a commit.
-pub struct Add;
-
-impl Play<Commit, u64> for Add {
-    ghost use Rattle.nl_publish.specs.Rules.{Adds};
-
-    ghost then = { Adds };
-}
-
-impl Plain<Commit, Commit, u64> for Add {
-    ghost use Rattle.std.specs.Prelude.{None};
-
-    ghost ask = { λ commit. commit };
-
-    ghost state = { λ commit. None };
-}
-
-/// Which book keeps the history of the volume with an id. No two volumes have one id.
-pub trait Volumes {
-    ghost use Rattle.std.specs.Prelude.{ℕ};
-    ghost use Rattle.logbook.specs.Pages.{Book};
-
-    ghost book: { ℕ → Book };
-}
-
-impl Volumes for Brand {
-    ghost book = { λ id. record { number = 0; log_name = 0; cells_name = 0 } };
-}
 
 /// An id with an empty history, which no volume has yet.
 #[derive(Drop)]
 pub struct Opened {
     id: u64,
-    head: Word<Commit, u64, Law>,
-    seen: Seen<Commit, u64, Law>,
+    head: HistoryWord,
+    seen: SeenHistory,
     pub ghost empty: { seen.log ≡ [] },
     pub ghost head_is: { head ≡ head_of seen.book },
 }
@@ -90,22 +31,18 @@ impl Opened {
     pub fn new(id: u64) -> Opened
         ensures { result.id ≡ id }
     {
-        let (seen, mut first, _second) = Seen::open(Start::alone(), 0, 0);
-        Opened {
-            id,
-            head: Word::tracked(0, &mut first),
-            seen,
-        }
+        let (head, seen) = open_book();
+        Opened { id, head, seen }
     }
 
     /// The right to add to the history, and the beginning that has nothing.
-    pub fn named<J: Volumes>(self) -> (Record<J>, Front<J>)
+    pub fn named<J: Volumes>(self) -> (HistoryLog<J>, Front<J>)
         requires { self.seen.book ≡ J.book self.id }
         ensures adding { result.0 ≡ record { volume = self.id; refusals = 0 } }
         ensures front { result.1 ≡ record { volume = self.id; commits = [] } }
     {
         let Opened { id, head, seen } = self;
-        let record = Record {
+        let log = HistoryLog {
             volume: id,
             refusals: 0,
             head,
@@ -117,20 +54,20 @@ impl Opened {
             seen,
             of: PhantomData,
         };
-        (record, front)
+        (log, front)
     }
 }
 
 /// What adds to a volume's history: the word with its length. It counts what it refuses.
 #[derive(Drop)]
-pub struct Record<J: Volumes> {
+pub struct HistoryLog<J: Volumes> {
     volume: u64,
     refusals: u64,
-    head: Word<Commit, u64, Law>,
+    head: HistoryWord,
     of: PhantomData<J>,
 }
 
-impl<J: Volumes> Model for Record<J> {
+impl<J: Volumes> Model for HistoryLog<J> {
     ghost use Rattle.std.specs.Prelude.{◌≡◌};
     ghost use Rattle.nl_publish.specs.Histories.{Adding};
     ghost use Rattle.nl_publish.specs.Rules.{head_of};
@@ -142,7 +79,7 @@ impl<J: Volumes> Model for Record<J> {
     ghost invariant = { λ r. r.head ≡ head_of (J.book r.volume) };
 }
 
-impl<J: Volumes> Record<J> {
+impl<J: Volumes> HistoryLog<J> {
     /// Counts that a commit wasn't added.
     fn refuse(&mut self)
         ensures volume { self.new.volume ≡ self.old.volume }
@@ -157,7 +94,7 @@ impl<J: Volumes> Record<J> {
 pub struct Front<J: Volumes> {
     volume: u64,
     count: u64,
-    seen: Seen<Commit, u64, Law>,
+    seen: SeenHistory,
     of: PhantomData<J>,
 }
 
@@ -204,7 +141,7 @@ impl<J: Volumes> Front<J> {
     }
 
     /// What was seen, as a token.
-    pub fn token(&self) -> Seen<Commit, u64, Law>
+    pub fn token(&self) -> SeenHistory
         ensures log { result.log ≡ self.now.commits }
         ensures book { result.book ≡ J.book self.now.volume }
         ensures begun { IsBegun self.now.commits }
@@ -237,7 +174,7 @@ impl<J: Volumes> Front<J> {
     }
 
     /// Adds a commit to all that was seen, and says whether it did.
-    fn append(&mut self, log: &Record<J>, commit: &Commit) -> bool
+    fn append(&mut self, log: &HistoryLog<J>, commit: &Commit) -> bool
         requires volume { log.now.volume ≡ self.old.volume }
         requires begun { IsBegun (self.old.commits ++ commit.now ∷ []) }
         ensures volume { self.new.volume ≡ self.old.volume }
@@ -248,26 +185,14 @@ impl<J: Volumes> Front<J> {
         if count >= MOST {
             return false;
         }
-        let mut offer: Offer<Commit, u64, Law, Nothing> = self
-            .seen
-            .plain::<Nothing, Commit, Add>(commit);
-        let mut pen = self.seen.no_pen();
-        let found = log
-            .head
-            .compare_exchange::<Add, Nothing>(
-                count,
-                count + 1,
-                &mut self.seen,
-                &mut offer,
-                &mut pen,
-            );
+        let found = add_commit(&log.head, &mut self.seen, count, commit);
         self.count = if found == count { count + 1 } else { found };
         found == count
     }
 
     /// Adds a commit to all that was seen, and says whether it did. It did not where the history is longer
     /// than what was seen, or as long as one can be, which is counted.
-    pub fn add(&mut self, log: &mut Record<J>, commit: &Commit) -> bool
+    pub fn add(&mut self, log: &mut HistoryLog<J>, commit: &Commit) -> bool
         requires volume { log.old.volume ≡ self.old.volume }
         requires begun { IsBegun (self.old.commits ++ commit.now ∷ []) }
         ensures volume { self.new.volume ≡ self.old.volume }
@@ -285,7 +210,7 @@ impl<J: Volumes> Front<J> {
     }
 
     /// A copy with a commit added, where `add` adds it.
-    pub(crate) fn with_commit(&self, log: &mut Record<J>, commit: &Commit) -> Option<Front<J>>
+    pub(crate) fn with_commit(&self, log: &mut HistoryLog<J>, commit: &Commit) -> Option<Front<J>>
         requires volume { log.old.volume ≡ self.now.volume }
         requires begun { IsBegun (self.now.commits ++ commit.now ∷ []) }
         ensures volume { IfSome result (λ longer. longer.volume ≡ self.now.volume) }

@@ -1,24 +1,22 @@
-//! What is published. It is generic in nothing: the rule ties the id of its volume to its book, seat by seat.
+//! What is published. It is generic in nothing: `protocol` ties the id of its volume to its book, seat by seat.
 ghost use Rattle.std.specs.Prelude.{◌≡◌, [], ◌∷◌, IfOk};
-ghost use Rattle.nl_commit.specs.Commits.{image_of};
+ghost use Rattle.nl_commit.specs.Commits.{shown_after};
 ghost use Rattle.nl_publish.specs.Images.{IsWhole};
 ghost use Rattle.nl_commit.specs.Shown.{MountsRise};
 
-use crate::history::{Front, Law, Volumes};
-use crate::tables::Tables;
-use atomic_table::{Join, Split};
-use crossbeam_utils::rule::{Outcome, Protocol};
+use crate::history::Front;
+use crate::protocol::{SeenHistory, Volumes};
+use crate::tables::ReaderTables;
 use left_right::Absorb;
-use logbook::Seen;
 use nl_commit::Commit;
 use std::alloc::{AllocError, Global};
 
 /// What readers see, and the history that made it, which has so many commits.
 #[derive(Drop)]
 pub struct Image {
-    pub tables: Tables,
+    pub tables: ReaderTables,
     pub count: u64,
-    pub seen: Seen<Commit, u64, Law>,
+    pub seen: SeenHistory,
 }
 
 impl Image {
@@ -29,13 +27,13 @@ impl Image {
         front: &Front<J>,
     ) -> Result<Image, AllocError>
         requires first { front.now.commits ≡ commit.now ∷ [] }
-        requires mounts { MountsRise (image_of front.now.commits) }
+        requires mounts { MountsRise (shown_after front.now.commits) }
         ensures whole { IfOk result IsWhole }
         ensures log { IfOk result (λ image. image.seen.log ≡ front.now.commits) }
         ensures book { IfOk result (λ image. image.seen.book ≡ J.book front.now.volume) }
     {
         let seen = front.token();
-        let tables = Tables::first(alloc, commit)?;
+        let tables = ReaderTables::first(alloc, commit)?;
         Ok(Image {
             tables,
             count: front.len(),
@@ -50,7 +48,7 @@ impl Image {
         ensures { IfOk result (λ image. image ≡ self.now) }
     {
         self.tables.mounts_rise();
-        let tables = Tables::first(alloc, commit)?;
+        let tables = ReaderTables::first(alloc, commit)?;
         Ok(Image {
             tables,
             count: self.count,
@@ -64,7 +62,7 @@ impl Image {
 pub struct Entry {
     pub commit: Commit,
     pub count: u64,
-    pub seen: Seen<Commit, u64, Law>,
+    pub seen: SeenHistory,
 }
 
 impl Absorb<Entry> for Image {
@@ -85,55 +83,4 @@ impl Absorb<Entry> for Image {
         self.seen = operation.seen.again();
         Ok(())
     }
-}
-
-/// What a seat knows of the book: nothing, or which one it is. No value of it is made.
-pub type Name = [u64; 0];
-
-/// The rule: the image is what its history makes, which is legal, and each seat knows nothing, or the image's
-/// book.
-pub struct Keeps;
-
-impl Protocol<Image, Name> for Keeps {
-    ghost use Rattle.std.specs.Prelude.{[]};
-    ghost use Rattle.nl_publish.specs.Images.{Kept};
-
-    ghost holds = { Kept };
-
-    ghost first = { [] };
-}
-
-/// A look at the image, or a publication.
-pub struct Sees;
-
-impl Outcome<Image, Name> for Sees {
-    ghost use Rattle.nl_publish.specs.Images.{Looks};
-
-    ghost then = { Looks };
-}
-
-/// The first publication, by which the writer learns the name.
-pub struct Names;
-
-impl Outcome<Image, Name> for Names {
-    ghost use Rattle.nl_publish.specs.Images.{Learns};
-
-    ghost then = { Learns };
-}
-
-/// A note of the name.
-pub struct Notes;
-
-impl Split<Name> for Notes {
-    ghost left = { λ v. v };
-
-    ghost right = { λ v. v };
-}
-
-impl Join<Name> for Notes {
-    ghost use Rattle.std.specs.Prelude.{[]};
-
-    ghost both = { λ v w. w };
-
-    ghost spent = { [] };
 }

@@ -2,23 +2,24 @@
 ghost use Rattle.std.specs.Prelude.{◌≡◌, ◌≢◌, ◌<◌, ◌+◌, ◌++◌, ◌∷◌, [], None, Some, Ok, Err, IfErr, IfOk, MatchBool, MatchResult, length};
 ghost use Rattle.nl_types.specs.declared.event.Event.TheVariants as event;
 ghost use Rattle.nl_types.specs.declared.reply.Answer.{Answer};
-ghost use Rattle.nl_types.specs.Worlds.{World};
-ghost use Rattle.nl_commit.specs.Commits.{image_of};
+ghost use Rattle.nl_types.specs.Plain.Worlds.{World};
+ghost use Rattle.nl_commit.specs.Commits.{shown_after};
 ghost use Rattle.nl_commit.specs.Layout.{IsPen, MeansWorld, ReadsCopy, layout_of};
 ghost use Rattle.nl_commit.specs.Notes.{shown_of};
 ghost use Rattle.nl_commit.specs.Volume.{without_mounts};
 ghost use Rattle.nl_publish.specs.Images.{IsPublished, IsWhole};
-ghost use Rattle.nl_publish.specs.Locks.{Begins, Finished, GoesBy, IsMountReply, IsNoMountEvent, IsSoundState, IsTold, IsTried, Keeps, LostComesBack, MountGoes, MountRan, Ran};
-ghost use Rattle.nl_publish.specs.Locks.{mount_reply, told_by};
+ghost use Rattle.nl_publish.specs.Locks.{Begins, Finished, GoesBy, IsNoMountEvent, IsSoundState, IsHeldPen, IsTried, StaysHeld, LostComesBack, MountGoes, MountRan, Ran, told_by};
 ghost use Rattle.nl_publish.specs.Refusals.{HasRefused};
 ghost use Rattle.nl_publish.specs.Returns.{IsGivenBack, UnmountRan};
 ghost use Rattle.nl_publish.specs.Told.{ShowsCopy};
 
 use crate::entries::next_entry;
-use crate::history::{Front, Record, Volumes};
+use crate::history::{Front, HistoryLog};
 use crate::image::Entry;
 use crate::mount::{Gone, Mount, RefusedMount};
 use crate::press::{Press, Publisher};
+use crate::protocol::Volumes;
+use nl_calls::{mount_made, without_answer};
 use nl_commit::{Commit, NotingPen};
 use nl_types::{Answer, Ask, CheckpointNumber, Event, MountNumber, Reply, VolError};
 use std::alloc::Global;
@@ -30,7 +31,7 @@ use std::sync::Wait;
 /// readers see of the pen is what all of the history makes.
 pub struct Locked<P: NotingPen, J: Volumes, W: Press> {
     pen: P,
-    log: Record<J>,
+    log: HistoryLog<J>,
     /// The history that ends with what was handed to the writer, and with `unsent`.
     noted: Front<J>,
     /// An entry that the writer had no memory for.
@@ -63,26 +64,7 @@ impl<P: NotingPen, J: Volumes, W: Press> Model for Locked<P, J, W> {
         (W.unseen l.writer ++ listed l.unsent) l.noted l.waiting.items (shown_of (P.layout l.pen)) };
 }
 
-/// The mount that is answered to an event that mounts.
-fn mount_number(reply: Reply) -> Result<MountNumber, VolError>
-    requires { IsMountReply reply }
-    ensures { MatchResult result (λ m. reply ≡ mount_reply m) (λ e. reply ≡ Err e) }
-{
-    match reply? {
-        Answer::Mount(number) => Ok(number),
-        _ => unreachable!(),
-    }
-}
-
-/// Whether an event was done, without its answer.
-fn without_answer(reply: Reply) -> Result<(), VolError>
-    ensures { MatchResult result (λ _. (answer : Answer) × (reply ≡ Ok answer)) (λ e. reply ≡ Err e) }
-{
-    reply?;
-    Ok(())
-}
-
-/// Keeps an entry that the writer doesn't have.
+/// StaysHeld an entry that the writer doesn't have.
 fn keep_entry(unsent: &mut Option<Entry>, entry: Entry)
     ensures { unsent.new ≡ Some entry }
 {
@@ -105,7 +87,7 @@ impl<P: NotingPen, J: Volumes, W: Press> Locked<P, J, W> {
     /// Hands the next commit to the writer, and says whether it did.
     fn hand_one(&mut self) -> bool
         requires { 0 < self.old.unsent }
-        ensures kept { Keeps self.old self.new }
+        ensures kept { StaysHeld self.old self.new }
         ensures handed { MatchBool result (self.new.unsent < self.old.unsent)
             (HasRefused self.old.refusals self.new.refusals) }
     {
@@ -128,7 +110,7 @@ impl<P: NotingPen, J: Volumes, W: Press> Locked<P, J, W> {
 
     /// Shows readers all that was handed to the writer, and says whether it did.
     fn show<R: Wait>(&mut self, rt: &R) -> bool
-        ensures kept { Keeps self.old self.new }
+        ensures kept { StaysHeld self.old self.new }
         ensures shown { MatchBool result
             (self.old.unsent ≡ 0 → self.new.published ≡ self.new.history)
             (HasRefused self.old.refusals self.new.refusals) }
@@ -137,7 +119,7 @@ impl<P: NotingPen, J: Volumes, W: Press> Locked<P, J, W> {
     }
 
     /// Whether all of the history is published.
-    pub fn is_settled(&self) -> bool
+    pub fn has_published_all(&self) -> bool
         ensures { MatchBool result (self.now.published ≡ self.now.history)
             (self.now.published ≢ self.now.history) }
     {
@@ -149,7 +131,7 @@ impl<P: NotingPen, J: Volumes, W: Press> Locked<P, J, W> {
 
     /// Hands all that waits to the writer, and says whether it did.
     fn hand_over(&mut self) -> bool
-        ensures kept { Keeps self.old self.new }
+        ensures kept { StaysHeld self.old self.new }
         ensures handed { MatchBool result (self.new.unsent ≡ 0)
             (HasRefused self.old.refusals self.new.refusals) }
     {
@@ -164,10 +146,10 @@ impl<P: NotingPen, J: Volumes, W: Press> Locked<P, J, W> {
     /// Publishes what is pending, as far as there is memory. It waits for readers only where something is
     /// pending.
     fn publish<R: Wait>(&mut self, rt: &R)
-        ensures kept { Keeps self.old self.new }
+        ensures kept { StaysHeld self.old self.new }
         ensures tried { IsTried self.old self.new }
     {
-        if self.is_settled() {
+        if self.has_published_all() {
             return;
         }
         if self.hand_over() {
@@ -176,14 +158,14 @@ impl<P: NotingPen, J: Volumes, W: Press> Locked<P, J, W> {
     }
 
     /// Publishes what is pending, and says whether nothing is pending any more.
-    pub(crate) fn settle<R: Wait>(&mut self, rt: &R) -> bool
-        ensures sent { Keeps self.old self.new }
+    pub(crate) fn publish_pending<R: Wait>(&mut self, rt: &R) -> bool
+        ensures sent { StaysHeld self.old self.new }
         ensures tried { IsTried self.old self.new }
         ensures settled { MatchBool result (self.new.published ≡ self.new.history)
             (self.new.published ≢ self.new.history) }
     {
         self.publish(rt);
-        self.is_settled()
+        self.has_published_all()
     }
 }
 
@@ -200,7 +182,7 @@ impl<P: NotingPen, J: Volumes, W: Press> Locked<P, J, W> {
     /// What readers see of the pen is what its history makes, of which a beginning is published. This says so
     /// to its callers, and does nothing.
     pub fn is_told(&self)
-        ensures { IsTold self.now }
+        ensures { IsHeldPen self.now }
     {
         let _ = &self.noted;
     }
@@ -232,7 +214,7 @@ impl<P: NotingPen, J: Volumes, W: Press> Locked<P, J, W> {
         ensures { MountGoes self.old checkpoint result self.new }
     {
         self.means_a_world();
-        mount_number(self.run_own(Event::Mount(checkpoint)))
+        mount_made(self.run_own(Event::Mount(checkpoint)))
     }
 
     /// Gives a mount back in the pen alone.
@@ -267,7 +249,7 @@ impl<P: NotingPen, J: Volumes, W: Press> Locked<P, J, W> {
         ensures tried { IsTried self.old self.new }
     {
         let begun = self.give_back();
-        self.settle(rt);
+        self.publish_pending(rt);
         begun
     }
 
@@ -279,7 +261,7 @@ impl<P: NotingPen, J: Volumes, W: Press> Locked<P, J, W> {
             return Err(refusal);
         }
         let reply = self.run(event);
-        self.settle(rt);
+        self.publish_pending(rt);
         reply
     }
 
@@ -338,7 +320,7 @@ impl<P: NotingPen, J: Volumes, W: Press> Locked<P, J, W> {
         if let Err(refusal) = self.begin(rt) {
             return Err(refusal);
         }
-        if !self.settle(rt) {
+        if !self.publish_pending(rt) {
             return Err(VolError::Memory);
         }
         match self.run_mount(checkpoint) {
@@ -356,7 +338,7 @@ impl<P: NotingPen, J: Volumes, W: Press> Locked<P, J, W> {
         requires { self.old.lost ≡ None }
         ensures { Finished self.old number result self.new }
     {
-        if self.settle(rt) {
+        if self.publish_pending(rt) {
             return Ok(number);
         }
         self.lost = Some(number);
@@ -383,7 +365,7 @@ impl<P: NotingPen, J: Volumes, W: Press> Locked<P, J, W> {
         ensures checkpoint { IfOk result (λ m. m.checkpoint ≡ checkpoint) }
         ensures told { IfOk result (λ m. m.told ≡ told_by self.new) }
         ensures copy { IfOk result (λ m. (w : World) → MeansWorld self.new.layout w
-            → ShowsCopy (image_of m.told.commits) m.checkpoint w) }
+            → ShowsCopy (shown_after m.told.commits) m.checkpoint w) }
     {
         match self.publish_mount(rt, checkpoint) {
             Err(refusal) => Err(refusal),
@@ -460,9 +442,9 @@ impl<P: NotingPen, J: Volumes, W: Press> Locked<P, J, W> {
 impl<P: NotingPen, J: Volumes, W: Press> Locked<P, J, W> {
     /// A pen all of which the writer shows readers by the first commit. `new` makes a writer, and a seat for
     /// each reader.
-    pub fn begun(alloc: Global, pen: P, log: Record<J>, front: Front<J>, writer: W) -> Self
+    pub fn begun(alloc: Global, pen: P, log: HistoryLog<J>, front: Front<J>, writer: W) -> Self
         requires volume { log.volume ≡ front.volume }
-        requires pen { shown_of (P.layout pen) ≡ image_of front.commits }
+        requires pen { shown_of (P.layout pen) ≡ shown_after front.commits }
         requires published { IsPublished front (W.shown writer) (W.unseen writer) }
         requires book { (W.shown writer).seen.book ≡ J.book front.volume }
         ensures { result ≡ record {

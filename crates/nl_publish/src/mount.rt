@@ -2,7 +2,8 @@
 ghost use Rattle.std.specs.Prelude.{◌≡◌, ◌≢◌, MatchResult};
 ghost use Rattle.nl_publish.specs.Mounts.{IsClaim};
 
-use crate::history::{Front, Volumes};
+use crate::history::Front;
+use crate::protocol::Volumes;
 use nl_types::{CheckpointNumber, MountNumber};
 use std::marker::Model;
 

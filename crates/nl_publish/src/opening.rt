@@ -1,16 +1,17 @@
 //! How a shared volume begins: all that readers see of its pen is published, and each reader has a seat.
 ghost use Rattle.std.specs.Prelude.{◌≡◌, ◌<◌, ◌^◌, ◌∷◌, [], All, drop, length, IfErr, IfOk};
-ghost use Rattle.nl_commit.specs.Commits.{IsHistory, image_of};
+ghost use Rattle.nl_commit.specs.Commits.{IsHistory, shown_after};
 ghost use Rattle.nl_publish.specs.Begun.{HasBegun};
 ghost use Rattle.nl_publish.specs.Images.{IsPublished, name_of};
 ghost use Rattle.nl_publish.specs.Locks.{told_by};
 ghost use Rattle.nl_commit.specs.Shown.{MountsRise};
 ghost use Rattle.nl_publish.specs.Seats.{known_to};
 
-use crate::history::{Front, Opened, Record, Volumes};
+use crate::history::{Front, HistoryLog, Opened};
 use crate::image::Image;
 use crate::locked::Locked;
-use crate::press::{ImageReader, Named, Press, Publisher, open};
+use crate::press::{NamedWriter, Press, Publisher, open};
+use crate::protocol::{ImageReader, Volumes};
 use nl_commit::{Commit, NotingPen};
 use nl_types::VolError;
 use std::alloc::{AllocError, Global};
@@ -27,7 +28,7 @@ pub struct Seat<J: Volumes> {
 /// A seat for each reader.
 fn take_seats<J: Volumes>(
     alloc: Global,
-    named: &mut Named,
+    named: &mut NamedWriter,
     front: &Front<J>,
     readers: usize,
 ) -> Result<Vec<Seat<J>>, AllocError>
@@ -58,7 +59,7 @@ pub fn publish<J: Volumes, R: Wait>(
     readers: usize,
 ) -> Result<(Publisher, Vec<Seat<J>>), AllocError>
     requires first { front.now.commits ≡ commit.now ∷ [] }
-    requires mounts { MountsRise (image_of front.now.commits) }
+    requires mounts { MountsRise (shown_after front.now.commits) }
     requires readers { (0 < readers) × (readers < 2 ^ 32) }
     ensures published { IfOk result (λ made. IsPublished front.now
         (⟦<Publisher as Press>⟧.shown made.0) (⟦<Publisher as Press>⟧.unseen made.0)) }
@@ -81,18 +82,18 @@ pub fn publish<J: Volumes, R: Wait>(
 fn publish_first<J: Volumes, R: Wait>(
     alloc: Global,
     rt: &R,
-    record: &mut Record<J>,
+    log: &mut HistoryLog<J>,
     front: &mut Front<J>,
     commit: &Commit,
     readers: usize,
 ) -> Result<(Publisher, Vec<Seat<J>>), AllocError>
-    requires volume { record.old.volume ≡ front.old.volume }
+    requires volume { log.old.volume ≡ front.old.volume }
     requires none { front.old.commits ≡ [] }
     requires first { IsHistory (commit.now ∷ []) }
-    requires mounts { MountsRise (image_of (commit.now ∷ [])) }
+    requires mounts { MountsRise (shown_after (commit.now ∷ [])) }
     requires readers { (0 < readers) × (readers < 2 ^ 32) }
     ensures volume { front.new.volume ≡ front.old.volume }
-    ensures own { record.new.volume ≡ record.old.volume }
+    ensures own { log.new.volume ≡ log.old.volume }
     ensures first { IfOk result (λ _. front.new.commits ≡ commit.now ∷ []) }
     ensures published { IfOk result (λ made. IsPublished front.new
         (⟦<Publisher as Press>⟧.shown made.0) (⟦<Publisher as Press>⟧.unseen made.0)) }
@@ -101,7 +102,7 @@ fn publish_first<J: Volumes, R: Wait>(
     ensures seats { IfOk result (λ made. length made.1.items ≡ readers) }
     ensures fronts { IfOk result (λ made. All (λ s. s.front ≡ front.new) made.1.items) }
 {
-    if !front.add(record, commit) {
+    if !front.add(log, commit) {
         return Err(AllocError);
     }
     publish(alloc, rt, commit, front, readers)
@@ -129,12 +130,12 @@ impl<P: NotingPen, J: Volumes> Locked<P, J, Publisher> {
         let Ok(commit) = pen.whole() else {
             return Err((VolError::Memory, pen));
         };
-        let (mut record, mut front) = opened.named::<J>();
-        let made = publish_first(alloc, rt, &mut record, &mut front, &commit, readers);
+        let (mut log, mut front) = opened.named::<J>();
+        let made = publish_first(alloc, rt, &mut log, &mut front, &commit, readers);
         drop(commit);
         let Ok((writer, seats)) = made else {
             return Err((VolError::Memory, pen));
         };
-        Ok((Locked::begun(alloc, pen, record, front, writer), seats))
+        Ok((Locked::begun(alloc, pen, log, front, writer), seats))
     }
 }

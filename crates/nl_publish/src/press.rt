@@ -4,9 +4,9 @@ ghost use Rattle.nl_publish.specs.Refusals.{HasRefused};
 ghost use Rattle.left_right.specs.Sides.{view};
 ghost use Rattle.nl_publish.specs.Images.{AreNext, HasShown, IsWhole, name_of};
 
-use crate::image::{Entry, Image, Keeps, Name, Names, Notes, Sees};
+use crate::image::{Entry, Image};
+use crate::protocol::{ImageReader, ImageWriter, LearnBook, NoteBook, SeeImage};
 use core::mem::replace_with;
-use left_right::reader::Reader;
 use left_right::writer::Writer;
 use std::alloc::{AllocError, Global};
 use std::sync::Wait;
@@ -57,16 +57,12 @@ pub trait Press {
         ensures { result.now ≡ shown self.now };
 }
 
-pub type ImageReader = Reader<Image, Name, Keeps>;
-
-type ImageWriter = Writer<Image, Entry, Name, Keeps>;
-
 fn show_all<R: Wait>(writer: ImageWriter, rt: &R) -> (ImageWriter, bool)
     requires { AreNext writer.desk.shown.value (drop writer.behind writer.log.items) }
     ensures { HasShown result.1 writer.desk.shown.value (drop writer.behind writer.log.items)
         result.0.desk.shown.value (drop result.0.behind result.0.log.items) }
 {
-    let (writer, shown) = writer.publish_as::<Sees, R>(rt);
+    let (writer, shown) = writer.publish_as::<SeeImage, R>(rt);
     (writer, shown.is_ok())
 }
 
@@ -120,7 +116,7 @@ impl Publisher {
 }
 
 /// A writer that shows an image, and that knows its book.
-pub struct Named {
+pub struct NamedWriter {
     writer: ImageWriter,
     pub ghost known: { view writer.desk.place ≡ name_of writer.desk.shown.value.seen.book },
 }
@@ -132,7 +128,7 @@ pub fn open<R: Wait>(
     first: Image,
     second: Image,
     readers: usize,
-) -> Result<Named, AllocError>
+) -> Result<NamedWriter, AllocError>
     requires readers { (0 < readers) × (readers < 2 ^ 32) }
     requires alike { first ≡ second }
     requires whole { IsWhole first }
@@ -140,15 +136,15 @@ pub fn open<R: Wait>(
     ensures unseen { IfOk result (λ n. drop n.writer.behind n.writer.log.items ≡ []) }
 {
     let writer: ImageWriter = Writer::new(alloc, first, second, readers)?;
-    let (writer, shown) = writer.publish_as::<Names, R>(rt);
+    let (writer, shown) = writer.publish_as::<LearnBook, R>(rt);
     if shown.is_err() {
         writer.take(rt);
         return Err(AllocError);
     }
-    Ok(Named { writer })
+    Ok(NamedWriter { writer })
 }
 
-impl Named {
+impl NamedWriter {
     /// A reader that knows the image's book.
     pub fn seat(&mut self) -> Result<ImageReader, AllocError>
         ensures told { IfOk result (λ r.
@@ -158,7 +154,7 @@ impl Named {
             ≡ drop self.old.writer.behind self.old.writer.log.items }
     {
         let mut reader = self.writer.factory().reader()?;
-        reader.learn::<Notes>(self.writer.tell::<Notes>());
+        reader.learn::<NoteBook>(self.writer.tell::<NoteBook>());
         Ok(reader)
     }
 
@@ -166,7 +162,7 @@ impl Named {
     pub fn publisher(self) -> Publisher
         ensures { result.writer ≡ self.writer }
     {
-        let Named { writer } = self;
+        let NamedWriter { writer } = self;
         Publisher {
             writer,
             refusals: 0,

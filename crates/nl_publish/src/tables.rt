@@ -3,7 +3,7 @@ ghost use Rattle.std.specs.Prelude.{◌≡◌, ◌≤◌, [], ◌∷◌, ◌++�
 ghost use Rattle.std.specs.Option.{option_copied};
 ghost use Rattle.nl_cpfile.specs.Tables.{ComesNext, kept_at, with_mode, with_next};
 ghost use Rattle.nl_commit.specs.Shown.{MountsRise, mounted_on, shown_at};
-ghost use Rattle.nl_commit.specs.Commits.{IsHistory, IsNext, applied, image_of, numbers_written, with_births, with_ends, with_room, without_numbers};
+ghost use Rattle.nl_commit.specs.Commits.{IsHistory, IsNext, applied, shown_after, numbers_written, with_births, with_ends, with_room, without_numbers};
 
 use nl_commit::{Commit, Mounted, Mounts, NewPage, ShownPage, Written};
 use nl_cpfile::{Checkpoint, Checkpoints};
@@ -15,7 +15,7 @@ use std::marker::Model;
 /// What readers see: the page and the period of each number in use, the kept checkpoints, and the mounts.
 /// Reads take no memory.
 #[derive(Drop)]
-pub struct Tables {
+pub struct ReaderTables {
     alloc: Global,
     /// By virtual block number; 0 is never used.
     numbers: Vec<Option<ShownPage>>,
@@ -23,7 +23,7 @@ pub struct Tables {
     mounts: Mounts,
 }
 
-impl Model for Tables {
+impl Model for ReaderTables {
     ghost use Rattle.nl_commit.specs.Shown.{Shown};
 
     ghost Value = { Shown };
@@ -213,12 +213,12 @@ fn set_mode(checkpoints: &mut Checkpoints, number: CheckpointNumber, mode: Mode)
     let _ = checkpoints.set_mode(number, mode);
 }
 
-impl Tables {
+impl ReaderTables {
     /// What the first commit of a history shows. Refused for memory alone.
-    pub fn first(alloc: Global, commit: &Commit) -> Result<Tables, AllocError>
+    pub fn first(alloc: Global, commit: &Commit) -> Result<ReaderTables, AllocError>
         requires history { IsHistory (commit.now ∷ []) }
-        requires mounts { MountsRise (image_of (commit.now ∷ [])) }
-        ensures { IfOk result (λ tables. tables ≡ image_of (commit.now ∷ [])) }
+        requires mounts { MountsRise (shown_after (commit.now ∷ [])) }
+        ensures { IfOk result (λ tables. tables ≡ shown_after (commit.now ∷ [])) }
     {
         let Commit::Whole(whole) = commit else {
             unreachable!();
@@ -226,7 +226,7 @@ impl Tables {
         let numbers = shared_pages(alloc, whole.numbers.as_slice())?;
         let earlier = whole.earlier.as_slice().to_vec(alloc)?;
         let mounts = Mounts::copied(alloc, whole.mounts.as_slice(), whole.given)?;
-        Ok(Tables {
+        Ok(ReaderTables {
             alloc,
             numbers,
             checkpoints: Checkpoints::from_table(earlier, whole.latest),
@@ -357,7 +357,7 @@ impl Tables {
     }
 }
 
-impl VRead for Tables {
+impl VRead for ReaderTables {
     ghost use Rattle.nl_commit.specs.Shown.{pages_shown, periods_shown};
 
     ghost pages = { pages_shown };

@@ -4,7 +4,7 @@ use Rattle.std.specs.Prelude.{◌==◌}
 use Rattle.std.specs.List.{All}
 use Rattle.nl_types.specs.declared.error.VolError.{VolError}
 use Rattle.nl_types.specs.declared.error.VolError.TheVariants.{StillNeeded}
-use Rattle.nl_types.specs.Entries.{Entry}
+use Rattle.nl_types.specs.Blocks.Entries.{Entry}
 use Rattle.nl_types.specs.Facts.PartialMaps.{is_one_of-get_or}
 use Rattle.nl_vstore.specs.Stores.{Store, IsStore, IsReclaimed, address_in, is_inside}
 use Rattle.nl_vstore.specs.Located.{needed_in, numbers_in}

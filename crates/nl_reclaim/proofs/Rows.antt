@@ -1,16 +1,12 @@
 -- Rows of blocks that grow at their end.
-use Rattle.std.proofs.Common.{◌≡◌, ◌≤◌, ◌<◌, ℕ, ◌+◌, Bool, true, false, cond, List, [], ◌++◌, Option, Some, None, inl, inr, sym, refl, ap, ◌∙◌, length, take, length-append, length-take, arith}
+use Rattle.std.proofs.Common.{◌≡◌, ◌≤◌, ◌<◌, ℕ, ◌+◌, true, false, cond, List, [], ◌++◌, Option, inl, inr, sym, refl, ap, ◌∙◌, length, take, length-append, length-take, arith}
 use Rattle.std.specs.Prelude.{nat_lt}
-use Rattle.std.specs.Option.{option_map}
 use Rattle.std.proofs.lemmas.Bool.{cases_lt}
 use Rattle.std.proofs.lemmas.Bool.Decides.{nat_tests}
 use Rattle.std.proofs.lemmas.List.{take_all, take-append-le}
-use Rattle.nl_types.specs.Entries.{Entry, period_of}
-use Rattle.nl_types.specs.declared.period.Period.{Period}
-use Rattle.nl_vstore.specs.Stores.{Store, content_in}
-use Rattle.nl_vstore.specs.Located.{AreCounted, onto, picked, number_at, by_period, if_needed, needs, needed_at}
+use Rattle.nl_vstore.specs.Located.{AreCounted, onto, picked}
 use Rattle.nl_vstore.specs.Facts.CountedRows.{counted-next, length-onto, row-grows}
-use Rattle.nl_reclaim.specs.Private.Loops.{told, AreSeen}
+use Rattle.nl_reclaim.specs.Private.Loops.{AreSeen}
 
 pub counted-none : (f : ℕ → Option ℕ) (b : ℕ) → AreCounted f b 0 0
 counted-none f b = record { counts = refl; few = omega arith }
@@ -55,27 +51,3 @@ pub seen-few : (f : ℕ → Option ℕ) (b limit position count : ℕ) (first : 
     → AreSeen f b limit position count first → length first ≤ count
 seen-few f b limit position count first seen =
     omega (arith, ap length seen.front, length-take limit (picked f b position), seen.counted.counts)
-
--- ---- one block
-
-pub needed-none : (s : Store) (needed : Entry → Bool) (b : ℕ) → None ≡ number_at s b
-    → None ≡ needed_at s needed b
-needed-none s needed b is = ap (if_needed (needs needed (content_in s))) is
-
-pub needed-told : (s : Store) (test : Period → Bool) (b v : ℕ) (period : Option Period)
-    → Some v ≡ number_at s b → period ≡ option_map period_of (content_in s v)
-    → told test v period ≡ needed_at s (by_period test) b
-needed-told s test b v period at is =
-    ap (told test v) is ∙ by_entry (content_in s v) refl
-    ∙ ap (if_needed (needs (by_period test) (content_in s))) at
-  where
-    by_entry : (o : Option Entry) → content_in s v ≡ o
-        → told test v (option_map period_of o) ≡ if_needed (needs (by_period test) (content_in s)) (Some v)
-    by_entry None e =
-        sym (ap (λ (o : Option Entry).
-        cond {A = Option ℕ} (Rattle.nl_vstore.specs.Located.entry_needed (by_period test) o) (Some v) None)
-        e)
-    by_entry (Some x) e =
-        sym (ap (λ (o : Option Entry).
-        cond {A = Option ℕ} (Rattle.nl_vstore.specs.Located.entry_needed (by_period test) o) (Some v) None)
-        e)

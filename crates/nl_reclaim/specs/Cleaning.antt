@@ -5,8 +5,8 @@ use Rattle.nl_types.specs.declared.error.VolError.TheVariants.{BadRange, Memory,
 use Rattle.nl_types.specs.declared.segment.SegmentInfo.{SegmentInfo}
 use Rattle.nl_types.specs.declared.segment.SegmentState.{SegmentState}
 use Rattle.nl_types.specs.declared.segment.SegmentState.TheVariants.{Clean, Dirty, Active, Error}
-use Rattle.nl_types.specs.Segments.{IsClosed, Segments}
-use Rattle.nl_types.specs.Entries.{Entry}
+use Rattle.nl_types.specs.Blocks.Segments.{IsClosed, Segments}
+use Rattle.nl_types.specs.Blocks.Entries.{Entry}
 use Rattle.nl_vstore.specs.Stores.{AreInside, Store, IsMoved, IsMoveRefused}
 use Rattle.nl_vstore.specs.Located.{numbers_in, needed_in, needed_count}
 use Rattle.nl_reclaim.specs.declared.moving.MoveCount.{MoveCount}

@@ -3,8 +3,8 @@ use Rattle.std.specs.Prelude.{◌≡◌, ◌≢◌, ◌≤◌, ℕ, zero, suc, �
 use Rattle.nl_types.specs.declared.error.VolError.{VolError}
 use Rattle.nl_types.specs.declared.segment.SegmentInfo.{SegmentInfo}
 use Rattle.nl_types.specs.declared.segment.SegmentState.TheVariants.{Dirty}
-use Rattle.nl_types.specs.Segments.{IsClosed, clean_info, info_of}
-use Rattle.nl_types.specs.Entries.{Entry, is_needed}
+use Rattle.nl_types.specs.Blocks.Segments.{IsClosed, clean_info, info_of}
+use Rattle.nl_types.specs.Blocks.Entries.{Entry, is_needed}
 use Rattle.nl_vstore.specs.Stores.{Store, IsStore, IsMoved, IsMoveRefused, IsReclaimed, content_in}
 use Rattle.nl_vstore.specs.Located.{numbers_in, needed_in}
 use Rattle.nl_reclaim.specs.Cleaning.{HasListedFirst, HasListedNone, HasMovedFirst, HasMovedNone, retired, split}

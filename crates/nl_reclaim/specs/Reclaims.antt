@@ -1,8 +1,8 @@
 -- What a retirement is to the kept checkpoints.
 use Rattle.std.specs.Prelude.{◌≡◌, ℕ, if◌then◌else◌, Bool, true, false, [], None, Some}
-use Rattle.nl_types.specs.Entries.{Place}
-use Rattle.nl_types.specs.Lifetimes.{Allowed, HasExactLifetimes, Ledger, Numbers, Frees}
-use Rattle.nl_types.specs.NumberLists.{is_one_of}
+use Rattle.nl_types.specs.Blocks.Entries.{Place}
+use Rattle.nl_types.specs.Blocks.Lifetimes.{Allowed, HasExactLifetimes, Ledger, Numbers, Frees}
+use Rattle.nl_types.specs.Plain.NumberLists.{is_one_of}
 use Rattle.nl_vstore.specs.Stores.{Store, IsStore, IsReclaimed, address_in, content_in, is_inside}
 use Rattle.nl_reclaim.specs.Moves.{KeptStore, needed_now}
 

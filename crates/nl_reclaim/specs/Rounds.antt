@@ -2,8 +2,8 @@
 use Rattle.std.specs.Prelude.{◌≡◌, ◌⊎◌, ℕ, zero, suc, Bool, true, false, List, [], ◌∷◌, Some}
 use Rattle.nl_types.specs.declared.segment.SegmentState.{SegmentState}
 use Rattle.nl_types.specs.declared.segment.SegmentState.TheVariants.{Clean, Dirty, Active, Error}
-use Rattle.nl_types.specs.NumberLists.{is_one_of}
-use Rattle.nl_types.specs.Entries.{is_needed}
+use Rattle.nl_types.specs.Plain.NumberLists.{is_one_of}
+use Rattle.nl_types.specs.Blocks.Entries.{is_needed}
 use Rattle.nl_vstore.specs.Stores.{IsStore, IsReclaimed, address_in, content_in, is_inside}
 use Rattle.nl_vstore.specs.Located.{needs}
 use Rattle.nl_reclaim.specs.Moves.{KeptStore, KeepsNeeds, HasMovedPages, info_now}

@@ -1,12 +1,14 @@
 //! Needed pages are listed, and moved out of their segment.
 ghost use Rattle.std.specs.Prelude.{◌≡◌, ◌<◌, ◌≤◌, IfOk, IfErr, OnErr, OnOk, length, take};
-ghost use Rattle.nl_types.specs.Segments.{IsClosed};
-ghost use Rattle.nl_vstore.specs.Located.{by_period, needed_in, needed_count};
+ghost use Rattle.nl_types.specs.Blocks.Entries.{is_needed};
+ghost use Rattle.nl_types.specs.Blocks.Segments.{IsClosed};
+ghost use Rattle.nl_vstore.specs.Located.{needed_in, needed_count};
 ghost use Rattle.nl_vstore.specs.Stores.{IsMoved, IsMoveRefused};
 ghost use Rattle.nl_reclaim.specs.Cleaning.{CanBeMoved, HasListedFirst, HasListedNone, split};
 
 use crate::judging::judge;
-use crate::needed::{Keeping, Needed, first_needed};
+use crate::keeping::Keeping;
+use crate::needed::{Needed, first_needed};
 use nl_types::{CheckpointNumber, Segment, VolError};
 use nl_vstore::Vstore;
 use std::alloc::Global;
@@ -45,9 +47,9 @@ fn list_first<V: Vstore, K: Keeping>(
     requires segment { segment < length (V.store store.now).segments.each }
     requires closed { IsClosed (V.store store.now).segments segment }
     ensures first { IfOk result (λ n. n.first.items
-        ≡ take limit (needed_in (V.store store.now) (by_period (K.test keeping.now)) segment)) }
+        ≡ take limit (needed_in (V.store store.now) (is_needed (K.kept keeping.now)) segment)) }
     ensures count { IfOk result (λ n. n.count
-        ≡ needed_count (V.store store.now) (by_period (K.test keeping.now)) segment) }
+        ≡ needed_count (V.store store.now) (is_needed (K.kept keeping.now)) segment) }
     ensures movable { IfOk result (λ n. CanBeMoved segment n.first.items (V.store store.now)) }
     ensures refused { OnErr result (result ≡ Err VolError.Memory) }
 {
@@ -67,7 +69,7 @@ pub fn list_needed<V: Vstore, K: Keeping>(
     segment: Segment,
     limit: u32,
 ) -> Result<Needed, VolError>
-    ensures listed { IfOk result (λ n. HasListedFirst (by_period (K.test keeping.now)) segment limit
+    ensures listed { IfOk result (λ n. HasListedFirst (is_needed (K.kept keeping.now)) segment limit
         (V.store store.now) n.first.items n.count) }
     ensures movable { IfOk result (λ n. CanBeMoved segment n.first.items (V.store store.now)) }
     ensures refused { IfErr result (HasListedNone segment limit (V.store store.now)) }

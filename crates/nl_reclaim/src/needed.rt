@@ -1,43 +1,13 @@
 //! The needed numbers of a segment, block by block.
-ghost use Rattle.std.specs.Prelude.{◌≡◌, ℕ, ◌+◌, ◌*◌, ◌<◌, ◌≤◌, ◌^◌, ◌++◌, Bool, if◌then◌else◌, nat_lt, length, take, [], IfOk};
-ghost use Rattle.nl_vstore.specs.Located.{by_period, needed_at, needed_in, needed_count, onto};
+ghost use Rattle.std.specs.Prelude.{◌≡◌, ◌+◌, ◌<◌, ◌≤◌, ◌^◌, ◌++◌, if◌then◌else◌, nat_lt, length, take, [], IfOk};
+ghost use Rattle.nl_types.specs.Blocks.Entries.{is_needed};
+ghost use Rattle.nl_vstore.specs.Located.{needed_at, needed_in, needed_count, onto};
 ghost use Rattle.nl_vstore.specs.Stores.{block_in};
-ghost use Rattle.nl_types.specs.declared.period.Period.{Period};
-ghost use Rattle.nl_reclaim.specs.Private.Loops.{told};
 
-use nl_types::{Period, Segment, VirtualNumber};
+use crate::keeping::{Keeping, is_number_needed};
+use nl_types::{Segment, VirtualNumber};
 use nl_vstore::Vstore;
 use std::alloc::{AllocError, Global};
-
-/// Which numbers are needed, told by their periods.
-pub trait Keeping {
-    /// Whether a period is one of a needed number.
-    ghost test: { Self → Period → Bool };
-
-    /// Whether a number with this period is needed.
-    fn needed(&self, period: Period) -> bool
-        ensures { result ≡ test self.now period };
-}
-
-/// The number, where its period is there and needed.
-fn if_kept<K: Keeping>(
-    keeping: &K,
-    number: VirtualNumber,
-    period: Option<Period>,
-) -> Option<VirtualNumber>
-    ensures { result ≡ told (K.test keeping.now) number period }
-{
-    match period {
-        Some(period) => {
-            if keeping.needed(period) {
-                Some(number)
-            } else {
-                None
-            }
-        }
-        None => None,
-    }
-}
 
 /// The needed number whose page stands at a position of a segment.
 fn needed_number<V: Vstore, K: Keeping>(
@@ -48,11 +18,15 @@ fn needed_number<V: Vstore, K: Keeping>(
 ) -> Option<VirtualNumber>
     requires segment { segment < length (V.store store.now).segments.each }
     requires position { position < (V.store store.now).segments.blocks }
-    ensures { result ≡ needed_at (V.store store.now) (by_period (K.test keeping.now))
+    ensures { result ≡ needed_at (V.store store.now) (is_needed (K.kept keeping.now))
         (block_in (V.store store.now) segment position) }
 {
     let number = store.at(segment, position)?;
-    if_kept(keeping, number, store.period(number))
+    if is_number_needed(store, keeping, number) {
+        Some(number)
+    } else {
+        None
+    }
 }
 
 /// The count with one more where there is a number.
@@ -70,7 +44,7 @@ fn counted(found: Option<VirtualNumber>, count: u32) -> u32
 /// memory.
 pub fn count_needed<V: Vstore, K: Keeping>(store: &V, keeping: &K, segment: Segment) -> u32
     requires { segment < length (V.store store.now).segments.each }
-    ensures { result ≡ needed_count (V.store store.now) (by_period (K.test keeping.now)) segment }
+    ensures { result ≡ needed_count (V.store store.now) (is_needed (K.kept keeping.now)) segment }
 {
     let mut count = 0;
     for position in 0..store.table().blocks() {
@@ -119,9 +93,9 @@ pub fn first_needed<V: Vstore, K: Keeping>(
 ) -> Result<Needed, AllocError>
     requires { segment < length (V.store store.now).segments.each }
     ensures first { IfOk result (λ n. n.first.items
-        ≡ take limit (needed_in (V.store store.now) (by_period (K.test keeping.now)) segment)) }
+        ≡ take limit (needed_in (V.store store.now) (is_needed (K.kept keeping.now)) segment)) }
     ensures count { IfOk result (λ n. n.count
-        ≡ needed_count (V.store store.now) (by_period (K.test keeping.now)) segment) }
+        ≡ needed_count (V.store store.now) (is_needed (K.kept keeping.now)) segment) }
 {
     let mut first = Vec::new(alloc);
     let mut count = 0;

@@ -3,7 +3,7 @@ use Rattle.std.proofs.Common.{◌≡◌, ◌+◌, ◌-◌, ◌≤◌, ◌∙◌,
 use Rattle.std.specs.Prelude.{slice_range}
 use Rattle.std.proofs.lemmas.List.{append-nil, drop_all, length-take-le, take-append-drop, take-take, take_all}
 use Rattle.std.proofs.lemmas.Slice.{between_is}
-use Rattle.nl_types.specs.Calls.{overwritten, resized}
+use Rattle.nl_types.specs.Plain.Calls.{overwritten, resized}
 use Rattle.nl_saving.specs.Extents.{AreZeros}
 use Rattle.nl_saving.specs.SparseFiles.{IsOverwritten, IsResized}
 

@@ -1,6 +1,6 @@
 -- What calls do to the bytes of a file, where these are known: what they do to a file of a volume.
 use Rattle.std.specs.Prelude.{◌≡◌, ℕ, List, Option, Some, IfSome}
-use Rattle.nl_types.specs.Calls.{overwritten, resized}
+use Rattle.nl_types.specs.Plain.Calls.{overwritten, resized}
 
 -- bytes are written from a place on
 abbrev pub IsOverwritten : (old new : Option (List ℕ)) → (place : ℕ) → (bytes : List ℕ) → Type 0

@@ -4,9 +4,9 @@ use Rattle.std.specs.List.{position_or_len}
 use Rattle.nl_types.specs.declared.event.Ask.{Ask}
 use Rattle.nl_types.specs.declared.event.Event.{Event}
 use Rattle.nl_types.specs.declared.reply.Answer.TheVariants as answer
-use Rattle.nl_types.specs.Calls.{IsUnlessMemory, ShowsUnlessMemory}
-use Rattle.nl_types.specs.Runs.{Run}
-use Rattle.nl_types.specs.Worlds.{Reply}
+use Rattle.nl_types.specs.Plain.Calls.{IsUnlessMemory, ShowsUnlessMemory}
+use Rattle.nl_types.specs.Plain.Runs.{Run}
+use Rattle.nl_types.specs.Plain.Worlds.{Reply}
 use Rattle.nl_publish.specs.Mounts.{Claim}
 use Rattle.nl_lanes.specs.Jobs.{AreAnswers, JobAnswer}
 use Rattle.nl_commands.specs.declared.command.Shown.TheVariants.{Content}

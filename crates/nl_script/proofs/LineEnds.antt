@@ -1,7 +1,7 @@
 -- What a line comes to, by what its parts came to.
 use Rattle.std.proofs.Common.{◌≡◌, ◌∙◌, ◌⊎◌, ap, sym, refl, subst, inl, inr, List, ℕ, Bool, Option, Result, OnOk}
 use Rattle.std.specs.Io.KnownBytes.{Appends}
-use Rattle.nl_types.specs.Worlds.{Reply}
+use Rattle.nl_types.specs.Plain.Worlds.{Reply}
 use Rattle.nl_types.specs.declared.error.VolError.TheVariants as error
 use Rattle.nl_types.specs.declared.event.Event.{Event}
 use Rattle.nl_commands.specs.declared.command.Command.{Command}
@@ -10,7 +10,7 @@ use Rattle.nl_commit.specs.Layout.{Layout}
 use Rattle.nl_texts.specs.Facts.Appending.{OnOk-same}
 use Rattle.nl_texts.specs.Texts.{Text}
 use Rattle.nl_script.specs.ExitStatus.{status_of}
-use Rattle.nl_protect.specs.declared.config.Config.{Config}
+use Rattle.nl_config.specs.declared.config.Config.{Config}
 use Rattle.nl_script.specs.Habits.{Habits}
 use Rattle.nl_script.specs.Lines.{AreEventsDone, AreOutcomesTold, AreFilesTold, ComesTo, IsCommandDone, LacksMemory, LineEnd, line_end, listed, refused}
 use Rattle.nl_script.specs.OutcomeTexts.{text_of}

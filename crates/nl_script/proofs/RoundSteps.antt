@@ -1,6 +1,6 @@
 -- One step more of a round.
 use Rattle.std.proofs.Common.{◌≡◌, ◌∙◌, ◌++◌, ap, sym, refl, subst, List, ◌∷◌, [], Option, None, Some}
-use Rattle.nl_types.specs.Worlds.{Reply}
+use Rattle.nl_types.specs.Plain.Worlds.{Reply}
 use Rattle.nl_script.specs.Rounds.{AreSteps, IsRoundOver, nothing_done, sum_behind, with_reply}
 use Rattle.nl_script.specs.declared.rounds.RoundSum.{RoundSum}
 

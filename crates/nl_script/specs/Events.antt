@@ -1,6 +1,6 @@
 -- What a command asks of a volume, one event after another.
 use Rattle.std.specs.Prelude.{ℕ, ◌-◌, ◌^◌, min, List, [], ◌∷◌, map, replicate, Option, None, Some}
-use Rattle.nl_types.specs.Limits.{file_limit}
+use Rattle.nl_types.specs.Plain.Limits.{file_limit}
 use Rattle.nl_types.specs.declared.event.Ask.{Ask}
 use Rattle.nl_types.specs.declared.event.Ask.TheVariants as ask
 use Rattle.nl_types.specs.declared.event.Change.TheVariants.{Write}

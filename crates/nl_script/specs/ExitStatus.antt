@@ -1,6 +1,6 @@
 -- What a line makes of the exit status.
 use Rattle.std.specs.Prelude.{Bool, true, false, ◌||◌, List, [], ◌∷◌}
-use Rattle.nl_types.specs.Worlds.{Reply}
+use Rattle.nl_types.specs.Plain.Worlds.{Reply}
 use Rattle.nl_types.specs.declared.event.Event.{Event}
 use Rattle.nl_script.specs.declared.status.Status.{Status}
 use Rattle.nl_script.specs.declared.status.Status.TheVariants as status

@@ -5,12 +5,12 @@ use Rattle.nl_types.specs.declared.event.Ask.{Ask}
 use Rattle.nl_types.specs.declared.event.Event.{Event}
 use Rattle.nl_types.specs.declared.event.Event.TheVariants.{MountRead}
 use Rattle.nl_types.specs.declared.reply.Answer.TheVariants.{Bytes}
-use Rattle.nl_types.specs.Calls.{IsUnlessMemory, reply_to}
-use Rattle.nl_types.specs.Limits.{file_limit}
-use Rattle.nl_types.specs.Trees.{Tree}
-use Rattle.nl_types.specs.Worlds.{Reply}
+use Rattle.nl_types.specs.Plain.Calls.{IsUnlessMemory, reply_to}
+use Rattle.nl_types.specs.Plain.Limits.{file_limit}
+use Rattle.nl_types.specs.Plain.Trees.{Tree}
+use Rattle.nl_types.specs.Plain.Worlds.{Reply}
 use Rattle.nl_commands.specs.declared.command.Shown.TheVariants.{Content}
-use Rattle.nl_commit.specs.Commits.{image_of}
+use Rattle.nl_commit.specs.Commits.{shown_after}
 use Rattle.nl_publish.specs.Mounts.{Claim}
 use Rattle.nl_publish.specs.Told.{TreeOn}
 use Rattle.nl_lanes.specs.Jobs.{JobAnswer}
@@ -20,7 +20,7 @@ use Rattle.nl_script.specs.Events.{asked}
 -- what each tree says that the mount's checkpoint had when it was mounted, unless memory is refused
 abbrev pub IsToldThrough : Claim → Ask → Reply → Type 0
 IsToldThrough m ask reply =
-    (t : Tree) → TreeOn (image_of m.told.commits) m.checkpoint t → IsUnlessMemory reply (reply_to t ask)
+    (t : Tree) → TreeOn (shown_after m.told.commits) m.checkpoint t → IsUnlessMemory reply (reply_to t ask)
 
 -- a port tells what a tree says, unless memory is refused, or it doesn't find the mount
 abbrev pub IsToldBy : Tree → Ask → Reply → Type 0
@@ -28,7 +28,7 @@ IsToldBy t ask reply = (reply ≡ Err BadMount) ⊎ IsUnlessMemory reply (reply_
 
 -- it does so by each tree that the mount's checkpoint had when it was mounted
 abbrev pub IsPortReply : Claim → Ask → Reply → Type 0
-IsPortReply m ask reply = (t : Tree) → TreeOn (image_of m.told.commits) m.checkpoint t → IsToldBy t ask reply
+IsPortReply m ask reply = (t : Tree) → TreeOn (shown_after m.told.commits) m.checkpoint t → IsToldBy t ask reply
 
 -- it is told that the mount isn't found
 abbrev pub is_bad_mount : Reply → Bool

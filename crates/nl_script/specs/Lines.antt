@@ -2,8 +2,8 @@
 use Rattle.std.specs.Prelude.{◌≡◌, ◌⊎◌, ◌+◌, ℕ, Bool, true, false, List, [], ◌∷◌, ◌++◌, if◌then◌else◌, map, Option, None, Some, is_some, Result, Ok, Err, OnOk}
 use Rattle.std.specs.Io.KnownBytes.{Appends}
 use Rattle.std.specs.List.{list_all, list_any}
-use Rattle.nl_types.specs.Runs.{Run}
-use Rattle.nl_types.specs.Worlds.{Reply}
+use Rattle.nl_types.specs.Plain.Runs.{Run}
+use Rattle.nl_types.specs.Plain.Worlds.{Reply}
 use Rattle.nl_types.specs.declared.error.VolError.{VolError}
 use Rattle.nl_types.specs.declared.error.VolError.TheVariants as error
 use Rattle.nl_types.specs.declared.event.Event.{Event}
@@ -24,7 +24,7 @@ use Rattle.nl_texts.specs.Texts.{Text}
 use Rattle.nl_texts.specs.declared.segments.SegmentRow.{SegmentRow}
 use Rattle.nl_script.specs.Events.{events_of, reading}
 use Rattle.nl_script.specs.FileReads.{is_bad_mount}
-use Rattle.nl_protect.specs.declared.config.Config.{Config}
+use Rattle.nl_config.specs.declared.config.Config.{Config}
 use Rattle.nl_script.specs.Habits.{Habits}
 use Rattle.nl_script.specs.ExitStatus.{status_if_refused, status_of}
 use Rattle.nl_script.specs.OutcomeTexts.{text_of}

@@ -1,6 +1,6 @@
 -- What is printed of outcomes.
 use Rattle.std.specs.Prelude.{ℕ, Bool, List, [], ◌++◌, flat_map, filter}
-use Rattle.nl_types.specs.Worlds.{Reply}
+use Rattle.nl_types.specs.Plain.Worlds.{Reply}
 use Rattle.nl_types.specs.declared.event.Event.{Event}
 use Rattle.nl_types.specs.declared.reply.Answer.{Answer}
 use Rattle.nl_types.specs.declared.reply.Answer.TheVariants as answer

@@ -1,6 +1,6 @@
 -- What is told of events and their replies, in the order in which it is told.
 use Rattle.std.specs.Prelude.{ℕ, ◌&&◌, not, Bool, true, false, List, [], ◌∷◌, ◌++◌, map, filter, Option, None, Some, Ok, Err}
-use Rattle.nl_types.specs.Worlds.{Reply}
+use Rattle.nl_types.specs.Plain.Worlds.{Reply}
 use Rattle.nl_types.specs.declared.error.VolError.{VolError}
 use Rattle.nl_types.specs.declared.error.VolError.TheVariants.{NoCheckpoint, IsSnapshot}
 use Rattle.nl_types.specs.declared.event.Event.{Event}

@@ -1,10 +1,10 @@
 -- Rounds of cleaning, and what is told of them.
 use Rattle.std.specs.Prelude.{◌≡◌, ◌+◌, ◌-◌, ◌^◌, if◌then◌else◌, min, ℕ, List, [], ◌∷◌, ◌++◌, length, Option, None, Some, Ok, Err}
-use Rattle.nl_types.specs.Worlds.{Reply}
+use Rattle.nl_types.specs.Plain.Worlds.{Reply}
 use Rattle.nl_types.specs.declared.error.VolError.{VolError}
 use Rattle.nl_types.specs.declared.reply.Answer.{Answer}
 use Rattle.nl_types.specs.declared.reply.Answer.TheVariants.{Expired, Moved, Freed}
-use Rattle.nl_protect.specs.Rounds.{ends_round}
+use Rattle.nl_rounds.specs.Rounds.{ends_round}
 use Rattle.nl_texts.specs.AnswerTexts.{clean_text}
 use Rattle.nl_texts.specs.RefusalTexts.{refusal_text}
 use Rattle.nl_texts.specs.Texts.{Text}

@@ -6,11 +6,9 @@ ghost use Rattle.nl_script.specs.Events.{asked, asking, events_of, mode_change, 
 ghost use Rattle.nl_script.specs.Outcomes.{is_quiet};
 
 use nl_commands::{CheckpointRange, Command, Shown};
+use nl_types::limits::FILE_LIMIT;
 use nl_types::{Ask, Change, CheckpointNumber, Event, Items, Mode, MountNumber};
 use std::alloc::{AllocError, Global};
-
-/// The most bytes that a file has.
-pub(crate) const MOST_BYTES: u64 = 67_108_864;
 
 /// Whether the command tells of no checkpoint that is not kept or a snapshot.
 pub fn is_quiet(command: &Command) -> bool
@@ -95,7 +93,7 @@ fn asked(what: Shown, path: Items<u8>) -> Ask
         Shown::Content => Ask::Bytes {
             path,
             offset: 0,
-            len: MOST_BYTES,
+            len: FILE_LIMIT,
         },
         Shown::Names => Ask::List { path },
         Shown::Kind => Ask::Stat { path },

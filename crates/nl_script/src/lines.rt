@@ -4,10 +4,10 @@ ghost use Rattle.std.specs.Io.KnownBytes.{Appends};
 ghost use Rattle.std.specs.List.{list_all, list_any};
 ghost use Rattle.nl_texts.specs.RefusalTexts.{refusal_text};
 ghost use Rattle.nl_texts.specs.SegmentLines.{seg_header, seg_texts};
-ghost use Rattle.nl_types.specs.Worlds.{Reply};
+ghost use Rattle.nl_types.specs.Plain.Worlds.{Reply};
 ghost use Rattle.nl_script.specs.ExitStatus.{status_if_refused};
-ghost use Rattle.nl_types.specs.Runs.{Run};
-ghost use Rattle.nl_types.specs.Segments.{info_of};
+ghost use Rattle.nl_types.specs.Plain.Runs.{Run};
+ghost use Rattle.nl_types.specs.Blocks.Segments.{info_of};
 ghost use Rattle.nl_script.specs.Events.{reading};
 ghost use Rattle.nl_script.specs.FileReads.{is_bad_mount};
 ghost use Rattle.nl_script.specs.Lines.{AreEventsDone, AreFilesTold, AreOutcomesTold, ComesTo, IsCommandDone, IsLatestFor, IsLineDone, IsRoundDone, LacksMemory, line_end, listed, files_end, is_open, is_since, needed_of, refused, row_of, segment_rows};
@@ -23,12 +23,13 @@ use crate::status::{LineResult, Status};
 use crate::telling::tell_all;
 use crate::volume::Volume;
 use nl_commands::{CheckpointRange, Command, LineError, read_line};
-use nl_commit::{NotingPen, Round};
+use nl_commit::NotingPen;
+use nl_config::Config;
 use nl_lanes::FileReader;
-use nl_protect::Config;
+use nl_rounds::Round;
 use nl_texts as texts;
 use nl_texts::SegmentRow;
-use nl_types::{CheckpointNumber, Event, Items, MountNumber, Reply, Segment, VolError};
+use nl_types::{CheckpointNumber, Event, Items, Moment, MountNumber, Reply, Segment, VolError};
 use std::alloc::{AllocError, Global};
 use std::io;
 use std::io::Write;
@@ -261,7 +262,7 @@ fn clean<V: Volume, W: Write>(
         ⊎ LacksMemory number moment volume.old volume.new end)
         moment result (W.contents out.old) (W.contents out.new) }
 {
-    match V::Job::plan(alloc, volume.pen(), config, moment) {
+    match V::Job::plan(alloc, volume.pen(), config, Moment::new(moment)) {
         Ok(job) => run_round(volume, job, number, out),
         Err(_) => refused(number, VolError::Memory, out),
     }

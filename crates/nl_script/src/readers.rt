@@ -1,14 +1,14 @@
 //! Ports that read files side by side, each in a thread of its own.
 ghost use Rattle.std.specs.Prelude.{◌≡◌, IfOk, IsOkUnless, map};
 ghost use Rattle.std.specs.List.{position_or_len};
-ghost use Rattle.nl_types.specs.Calls.{IsUnlessMemory, ShowsUnlessMemory};
-ghost use Rattle.nl_types.specs.Worlds.{Reply};
+ghost use Rattle.nl_types.specs.Plain.Calls.{IsUnlessMemory, ShowsUnlessMemory};
+ghost use Rattle.nl_types.specs.Plain.Worlds.{Reply};
 ghost use Rattle.nl_types.specs.declared.reply.Answer.TheVariants as answered;
 ghost use Rattle.nl_script.specs.FileReads.{AreFirstFiles, is_bad_mount, job_of, reply_of};
 
-use crate::events::MOST_BYTES;
 use nl_lanes::{FileReader, Gate, JobAnswer, ReadJob, read_many};
 use nl_publish::{Mount, Volumes};
+use nl_types::limits::FILE_LIMIT;
 use nl_types::{Answer, Items, Reply, VolError};
 use std::alloc::{AllocError, Global};
 use std::thread::Threads;
@@ -40,7 +40,7 @@ fn jobs_of(alloc: Global, paths: &[Items<u8>]) -> Result<Vec<ReadJob>, AllocErro
         jobs.push(ReadJob {
             path: Items::from_slice(alloc, path.as_slice())?,
             offset: 0,
-            len: MOST_BYTES,
+            len: FILE_LIMIT,
         })?;
     }
     Ok(jobs)

@@ -1,7 +1,7 @@
 //! Events, one after another, on a volume.
 ghost use Rattle.std.specs.Prelude.{◌≡◌, ◌≤◌, ◌++◌, List, drop, length, IfOk, OnErr};
-ghost use Rattle.nl_types.specs.Runs.{Run};
-ghost use Rattle.nl_types.specs.Worlds.{Reply};
+ghost use Rattle.nl_types.specs.Plain.Runs.{Run};
+ghost use Rattle.nl_types.specs.Plain.Worlds.{Reply};
 
 use crate::volume::Volume;
 use nl_types::{Event, Reply};

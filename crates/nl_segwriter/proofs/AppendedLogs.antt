@@ -3,11 +3,11 @@ use Rattle.std.proofs.Common.{◌≡◌, ℕ, ◌+◌, List, [], ◌∷◌, ◌+
 use Rattle.std.proofs.lemmas.List.{length-map, map-append, length-take-le, take-append-drop, length-drop}
 use Rattle.std.specs.List.{AllByRecursion}
 use Rattle.nl_types.specs.declared.segment.Log.{Log}
-use Rattle.nl_types.specs.Segments.{Segments, AreTidy}
-use Rattle.nl_types.specs.Placing.{IsLog, AreNextLogs, LogsFit, first_block, addresses, payload_count, blocks_from, with_logs}
+use Rattle.nl_types.specs.Blocks.Segments.{Segments, AreTidy}
+use Rattle.nl_types.specs.Blocks.Placing.{IsLog, AreNextLogs, LogsFit, first_block, addresses, payload_count, blocks_from, with_logs}
 use Rattle.nl_types.specs.Facts.NextLogs.{placed}
 use Rattle.nl_types.specs.Facts.UsedParts.{are_unused, payload_used}
-use Rattle.nl_types.specs.PartialMaps.{Stands}
+use Rattle.nl_types.specs.Blocks.PartialMaps.{Stands}
 use Rattle.nl_device.specs.Pages.{DevicePages}
 use Rattle.nl_segwriter.specs.declared.staging.Staged.{Staged}
 use Rattle.nl_space.specs.Content.{SpaceContent, HeldPayload, Payload, payload_page}

@@ -4,8 +4,8 @@ use Rattle.std.proofs.Math.ListN.{replicate}
 use Rattle.std.proofs.Math.Logic.{∥∥₁_map}
 use Rattle.std.proofs.lemmas.List.{length-append, length-replicate}
 use Rattle.nl_types.specs.declared.segment.SegmentInfo.{SegmentInfo}
-use Rattle.nl_types.specs.Segments.{AreTidy, HaveLogs, Segments, grown_to, has_logs, total_blocks}
-use Rattle.nl_types.specs.GrowingLaws.{InfosStay, UsedStays}
+use Rattle.nl_types.specs.Blocks.Segments.{AreTidy, HaveLogs, Segments, grown_to, has_logs, total_blocks}
+use Rattle.nl_types.specs.Blocks.GrowingLaws.{InfosStay, UsedStays}
 use Rattle.nl_types.specs.Facts.UsedParts.{used_inside}
 use Rattle.nl_device.specs.Pages.{DevicePages, KeepsBelow}
 use Rattle.nl_space.specs.Content.{HeldPayload, HoldsOnlyUsed, KeepsUsed, Payload, SpaceContent}

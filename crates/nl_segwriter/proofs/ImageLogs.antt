@@ -7,7 +7,7 @@ use Rattle.std.proofs.lemmas.Option.{slice_get-get_or}
 use Rattle.nl_device.specs.Pages.{DevicePages}
 use Rattle.nl_layout.specs.declared.tag.Tag.{Tag}
 use Rattle.nl_layout.specs.Summary.{Contents, SummaryHasSpelling, summary_bytes}
-use Rattle.nl_types.specs.Segments.{Segments}
+use Rattle.nl_types.specs.Blocks.Segments.{Segments}
 use Rattle.nl_space.specs.Content.{HeldPayload, Payload, SpaceContent, StandInRow, payload_page, payload_tag}
 use Rattle.nl_space.specs.Logs.{FillDevice, FillUpTo, IsOnDevice, WholeLog, contents_of}
 use Rattle.nl_space.specs.Facts.KeptLogs.{fill_kept}

@@ -2,7 +2,7 @@
 use Rattle.std.proofs.Common.{◌≡◌, ℕ, ◌+◌, ◌<◌, List, [], ◌∷◌, ◌++◌, length, get_or, Option, None, refl, sym, ◌∙◌, subst, arith, inl, inr, length-append}
 use Rattle.std.proofs.lemmas.Bool.{cases_lt}
 use Rattle.std.proofs.lemmas.List.{get_or_append_left, get_or_past}
-use Rattle.nl_types.specs.Segments.{Segments, AreTidy, IsUsed, total_blocks}
+use Rattle.nl_types.specs.Blocks.Segments.{Segments, AreTidy, IsUsed, total_blocks}
 use Rattle.nl_types.specs.Facts.UsedParts.{used_inside}
 use Rattle.nl_device.specs.Pages.{DevicePages}
 use Rattle.nl_segwriter.specs.Images.{AreUsedPages, page_in}

@@ -3,8 +3,8 @@ use Rattle.std.proofs.Common.{◌≡◌, ℕ, suc, ◌+◌, ◌*◌, ◌≤◌, 
 use Rattle.std.proofs.Math.Nat.{mul-le-mul_right}
 use Rattle.std.proofs.lemmas.List.{length-map}
 use Rattle.std.specs.Prelude.{slice_get}
-use Rattle.nl_types.specs.Segments.{AreTidy, Segments}
-use Rattle.nl_types.specs.Placing.{first_block, IsNextLog}
+use Rattle.nl_types.specs.Blocks.Segments.{AreTidy, Segments}
+use Rattle.nl_types.specs.Blocks.Placing.{first_block, IsNextLog}
 use Rattle.nl_types.specs.Facts.UsedParts.{outside_row}
 use Rattle.nl_device.specs.Pages.{DevicePages}
 use Rattle.nl_layout.specs.Summary.{summary_bytes}

@@ -1,8 +1,8 @@
 -- One log after another.
 use Rattle.std.proofs.Common.{◌≡◌, ℕ, ◌+◌, ◌-◌, inl, inr, List, [], ◌∷◌, ◌++◌, length, refl, ap, sym, ◌∙◌, arith, subst}
 use Rattle.nl_types.specs.declared.segment.Log.{Log}
-use Rattle.nl_types.specs.Segments.{Segments, IsUsed, StaysUsed, AreTidy, with_error}
-use Rattle.nl_types.specs.Placing.{first_block, IsNextLog, with_log, with_logs}
+use Rattle.nl_types.specs.Blocks.Segments.{Segments, IsUsed, StaysUsed, AreTidy, with_error}
+use Rattle.nl_types.specs.Blocks.Placing.{first_block, IsNextLog, with_log, with_logs}
 use Rattle.nl_types.specs.Facts.UsedParts.{outside_row, used_row}
 use Rattle.nl_space.specs.Content.{SpaceContent, KeepsUsed, IsSameAt}
 use Rattle.nl_space.specs.Logs.{WholeLog, StandsFrom}

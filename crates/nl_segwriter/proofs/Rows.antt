@@ -3,8 +3,8 @@ use Rattle.std.proofs.Common.{◌≡◌, ◌≢◌, ℕ, zero, suc, ◌+◌, ◌
 use Rattle.std.proofs.Common.{inl, inr}
 use Rattle.std.proofs.lemmas.Bool.{cases_eq}
 use Rattle.std.specs.Prelude.{slice_get}
-use Rattle.nl_types.specs.Placing.{blocks_from}
-use Rattle.nl_types.specs.PartialMaps.{Stands}
+use Rattle.nl_types.specs.Blocks.Placing.{blocks_from}
+use Rattle.nl_types.specs.Blocks.PartialMaps.{Stands}
 use Rattle.nl_space.specs.Content.{SameOutside, StandInRow}
 
 module _ {V : Type 0} where

@@ -4,7 +4,7 @@ use Rattle.std.specs.Prelude.{slice_get}
 use Rattle.nl_types.specs.declared.segment.Position.{Position}
 use Rattle.nl_types.specs.declared.segment.SegmentInfo.{SegmentInfo}
 use Rattle.nl_types.specs.declared.segment.SegmentState.TheVariants.{Active, Error}
-use Rattle.nl_types.specs.Segments.{Segments, at_rest, none_active, info_of, clean_info, clean_segments, active_place, lowest_clean, with_active, with_error, AreTidy}
+use Rattle.nl_types.specs.Blocks.Segments.{Segments, at_rest, none_active, info_of, clean_info, clean_segments, active_place, lowest_clean, with_active, with_error, AreTidy}
 use Rattle.nl_types.specs.Facts.SegmentChanges.{active-at_rest, info_same, tidy_at}
 use Rattle.nl_types.specs.Facts.NextLogs.{HasLowest, has_lowest}
 

@@ -1,7 +1,7 @@
 -- The logs of an image, and the payload that they hold.
 use Rattle.std.specs.Prelude.{◌≡◌, ℕ, ◌+◌, ◌*◌, ◌<◌, ◌≤◌, List, length, map, slice_index_or, Option, None, Some}
 use Rattle.nl_types.specs.declared.geometry.Geometry.{Geometry}
-use Rattle.nl_types.specs.Segments.{Segments, IsUsed, info_of, total_blocks}
+use Rattle.nl_types.specs.Blocks.Segments.{Segments, IsUsed, info_of, total_blocks}
 use Rattle.nl_device.specs.Pages.{DevicePages}
 use Rattle.nl_layout.specs.declared.tag.Tag.{Tag}
 use Rattle.nl_space.specs.Content.{HeldPayload, Payload, SpaceContent, StandInRow, payload_page, payload_tag}

@@ -1,8 +1,8 @@
 -- Logs that are written, one after another.
 use Rattle.std.specs.Prelude.{◌≡◌, ℕ, ◌+◌, ◌<◌, ◌≤◌, List, [], ◌∷◌, ◌++◌, length, slice_get, slice_index_or, Option, None}
 use Rattle.nl_types.specs.declared.segment.Log.{Log}
-use Rattle.nl_types.specs.Segments.{Segments, with_active, with_error}
-use Rattle.nl_types.specs.Placing.{first_block, with_logs}
+use Rattle.nl_types.specs.Blocks.Segments.{Segments, with_active, with_error}
+use Rattle.nl_types.specs.Blocks.Placing.{first_block, with_logs}
 use Rattle.nl_types.specs.declared.error.VolError.{VolError}
 use Rattle.nl_types.specs.declared.error.VolError.TheVariants as error
 use Rattle.nl_device.specs.declared.device.DeviceError.{DeviceError}

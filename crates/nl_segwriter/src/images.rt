@@ -1,7 +1,7 @@
 //! The logs of an image.
 ghost use Rattle.std.specs.Prelude.{◌≡◌, ◌⊎◌, ◌+◌, ◌*◌, ◌<◌, ◌≤◌, IfErr, IfOk, IfSome, IsSome, List, MatchResult, None, OnOk, Some, length, ℕ};
-ghost use Rattle.nl_types.specs.Limits as limits;
-ghost use Rattle.nl_types.specs.Segments.{IsUsed, total_blocks};
+ghost use Rattle.nl_types.specs.Plain.Limits as limits;
+ghost use Rattle.nl_types.specs.Blocks.Segments.{IsUsed, total_blocks};
 ghost use Rattle.nl_layout.specs.Summary.{Contents, SummaryHasSpelling, summary_bytes};
 ghost use Rattle.nl_space.specs.Images.{pages_of_bytes};
 ghost use Rattle.nl_space.specs.Logs.{FillDevice, FillUpTo, IsOnDevice, WholeLog};

@@ -1,8 +1,8 @@
 //! Space as logs on a device.
 ghost use Rattle.std.specs.Prelude.{◌≡◌, ◌+◌, ◌*◌, ◌<◌, ◌≤◌, ◌⊎◌, OnOk, OnErr, IfErr, IfOk, IsOkUnless, Some, ℕ, length};
 ghost use Rattle.std.specs.List.{AllByRecursion};
-ghost use Rattle.nl_types.specs.Segments.{HaveLogs, StaysUsed, active_place, info_of, lowest_clean, total_blocks, with_active, with_error};
-ghost use Rattle.nl_types.specs.Placing.{IsNextLog, AreNextLogs, first_block, with_log, with_logs};
+ghost use Rattle.nl_types.specs.Blocks.Segments.{HaveLogs, StaysUsed, active_place, info_of, lowest_clean, total_blocks, with_active, with_error};
+ghost use Rattle.nl_types.specs.Blocks.Placing.{IsNextLog, AreNextLogs, first_block, with_log, with_logs};
 ghost use Rattle.std.proofs.Props.{props};
 ghost use Rattle.nl_device.specs.Failures.{CountsWrites, FailsToWrite};
 ghost use Rattle.nl_sufile.specs.Table.{IsSegTable};
@@ -21,8 +21,9 @@ use crate::staging::{Staged, stage};
 use nl_device::{Device, DeviceError, Fault};
 use nl_space::{Payload, Space};
 use nl_sufile::SegTable;
-use nl_types::laws::growing_keeps_segments;
-use nl_types::{BlockNumber, CheckpointNumber, Geometry, Items, Page, Position, Segment, VolError};
+use nl_types::{
+    BlockNumber, CheckpointNumber, Geometry, Items, Page, Position, Segment, VolError, laws,
+};
 use std::alloc::Global;
 
 /// Logs on a device, and their payload in memory.
@@ -239,7 +240,7 @@ impl<D: Device> Space for LogSpace<D> {
     }
 
     fn grow(&mut self, alloc: Global, segments: u32) -> Result<(), VolError> {
-        growing_keeps_segments();
+        laws::growing_keeps_segments();
         let table = self.table.grown(alloc, segments)?;
         let count = self.payload.len();
         add_blocks(&mut self.payload, alloc, segments * table.blocks())?;

@@ -1,9 +1,9 @@
 //! The numbers of payload blocks.
 ghost use Rattle.std.specs.Prelude.{◌≡◌, ◌+◌, ◌*◌, ◌<◌, ◌≤◌, ◌++◌, ◌^◌, IfOk, OnOk};
 ghost use Rattle.std.specs.List.{AllByRecursion};
-ghost use Rattle.nl_types.specs.Limits as limits;
-ghost use Rattle.nl_types.specs.Segments.{total_blocks};
-ghost use Rattle.nl_types.specs.Placing.{addresses, blocks_from, first_block};
+ghost use Rattle.nl_types.specs.Plain.Limits as limits;
+ghost use Rattle.nl_types.specs.Blocks.Segments.{total_blocks};
+ghost use Rattle.nl_types.specs.Blocks.Placing.{addresses, blocks_from, first_block};
 
 use nl_types::{BlockNumber, Log};
 use std::alloc::{AllocError, Global};

@@ -1,6 +1,6 @@
 //! DevicePages put on the device, one after another.
 ghost use Rattle.std.specs.Prelude.{◌≡◌, ◌+◌, ◌*◌, ◌<◌, ◌≤◌, ℕ, List, Some, length, OnOk, OnErr, IfErr};
-ghost use Rattle.nl_types.specs.Limits as limits;
+ghost use Rattle.nl_types.specs.Plain.Limits as limits;
 ghost use Rattle.nl_device.specs.Failures.{CountsWrites, FailsToWrite};
 ghost use Rattle.nl_device.specs.Pages.{KeepsOthers};
 ghost use Rattle.nl_segwriter.specs.Images.{page_in};

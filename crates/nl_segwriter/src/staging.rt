@@ -1,7 +1,7 @@
 //! Logs made ready to be written: all that needs memory is done here.
 ghost use Rattle.std.specs.Prelude.{◌≡◌, ◌≤◌, ◌∷◌, length, map, IfOk};
-ghost use Rattle.nl_types.specs.Limits as limits;
-ghost use Rattle.nl_types.specs.Placing.{payload_count};
+ghost use Rattle.nl_types.specs.Plain.Limits as limits;
+ghost use Rattle.nl_types.specs.Blocks.Placing.{payload_count};
 ghost use Rattle.nl_layout.specs.Summary.{Spells, SummaryHasSpelling, summary_bytes};
 ghost use Rattle.nl_space.specs.Content.{payload_tag, payload_page};
 

@@ -5,8 +5,8 @@ use Rattle.std.proofs.lemmas.List.Elements.{All-tail}
 use Rattle.std.proofs.lemmas.Option.{same_Some}
 use Rattle.nl_types.specs.declared.event.Event.{Event}
 use Rattle.nl_types.specs.declared.reply.Answer.{Answer}
-use Rattle.nl_types.specs.Runs.{Run}
-use Rattle.nl_types.specs.Worlds.{Reply}
+use Rattle.nl_types.specs.Plain.Runs.{Run}
+use Rattle.nl_types.specs.Plain.Worlds.{Reply}
 use Rattle.nl_commit.specs.Layout.{Does, Layout}
 use Rattle.nl_commit.specs.Notes.{shared}
 use Rattle.nl_cleaner.specs.Job.{JobView, next_event}

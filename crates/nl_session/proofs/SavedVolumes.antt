@@ -2,7 +2,7 @@
 use Rattle.std.proofs.Common.{◌≡◌, ◌∙◌, ℕ, Bool, true, false, inl, inr, subst, sym}
 use Rattle.std.specs.Prelude.{if◌then◌else◌}
 use Rattle.nl_types.specs.declared.event.Mode.TheVariants.{Plain}
-use Rattle.nl_types.specs.Worlds.{Outcome, World, checkpoint}
+use Rattle.nl_types.specs.Plain.Worlds.{Outcome, World, checkpoint}
 use Rattle.nl_image.specs.Laws.{PresentMarkStays}
 use Rattle.nl_commit.specs.Layout.{Layout, MeansWorld}
 use Rattle.nl_core.specs.Opened.{IsAtRest}

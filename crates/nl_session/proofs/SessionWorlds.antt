@@ -1,7 +1,7 @@
 -- Sessions beside worlds.
 use Rattle.std.proofs.Common.{[], Option, ap, refl, sym, subst}
 use Rattle.nl_types.specs.declared.event.Event.{Event}
-use Rattle.nl_types.specs.Worlds.{Reply, World}
+use Rattle.nl_types.specs.Plain.Worlds.{Reply, World}
 use Rattle.nl_commit.specs.Layout.{Layout, MeansWorld, layout_of}
 use Rattle.nl_commit.specs.Volume.{without_mounts}
 use Rattle.nl_cleaner.specs.Job.{JobView}

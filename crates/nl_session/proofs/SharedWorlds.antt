@@ -13,14 +13,14 @@ use Rattle.nl_types.specs.declared.event.Event.TheVariants.{Mount, Unmount}
 use Rattle.nl_types.specs.declared.event.Mode.{Mode}
 use Rattle.nl_types.specs.declared.event.Mode.TheVariants.{Snapshot}
 use Rattle.nl_types.specs.declared.reply.Answer.TheVariants as answer
-use Rattle.nl_types.specs.Laws.{CopiesStay, GivesBack, MountNumbersAreNew, MountsStay}
-use Rattle.nl_types.specs.Limits.{mount_number_limit}
-use Rattle.nl_types.specs.Rows.{is_snapshot}
-use Rattle.nl_types.specs.Trees.{Tree}
-use Rattle.nl_types.specs.Worlds.{Copy, IsWorld, Outcome, Reply, World, copy_at, kept_copy, mounted, step}
+use Rattle.nl_types.specs.Plain.Laws.{CopiesStay, GivesBack, MountNumbersAreNew, MountsStay}
+use Rattle.nl_types.specs.Plain.Limits.{mount_number_limit}
+use Rattle.nl_types.specs.Plain.Rows.{is_snapshot}
+use Rattle.nl_types.specs.Plain.Trees.{Tree}
+use Rattle.nl_types.specs.Plain.Worlds.{Copy, IsWorld, Outcome, Reply, World, copy_at, kept_copy, mounted, step}
 use Rattle.nl_types.specs.Facts.EventCases.{after_mount, either_gives, refused_if_gives}
 use Rattle.nl_types.specs.Facts.NumberedLists.{AllBelow, find-push_same, list_all_weaken}
-use Rattle.nl_commit.specs.Commits.{image_of}
+use Rattle.nl_commit.specs.Commits.{shown_after}
 use Rattle.nl_commit.specs.Layout.{DoesIn, Layout, cleaned}
 use Rattle.nl_commit.specs.Notes.{shared}
 use Rattle.nl_publish.specs.Locks.{mount_reply}
@@ -61,7 +61,7 @@ still_shown laws cleaned reply old new event m is world before found =
         copy = now.0;
         kept = now.1;
         shown =
-            subst (λ (t : Tree). TreeOn (image_of m.told.commits) m.checkpoint t)
+            subst (λ (t : Tree). TreeOn (shown_after m.told.commits) m.checkpoint t)
             (sym same.0) before.told.shown;
       };
     }

@@ -12,9 +12,9 @@ use Rattle.nl_types.specs.declared.event.Ask.{Ask}
 use Rattle.nl_types.specs.declared.event.Event.{Event}
 use Rattle.nl_types.specs.declared.event.Event.TheVariants as event
 use Rattle.nl_types.specs.declared.event.Event.TheVariants.{Mount, Unmount}
-use Rattle.nl_types.specs.Calls.{IsUnlessMemory, and_then, reply_to}
-use Rattle.nl_types.specs.Laws.{GivesBack}
-use Rattle.nl_types.specs.Worlds.{Copy, Reply, World, copy_at, formatted, mount_read}
+use Rattle.nl_types.specs.Plain.Calls.{IsUnlessMemory, and_then, reply_to}
+use Rattle.nl_types.specs.Plain.Laws.{GivesBack}
+use Rattle.nl_types.specs.Plain.Worlds.{Copy, Reply, World, copy_at, formatted, mount_read}
 use Rattle.nl_commit.specs.Layout.{DoesIn, Layout, MeansWorld}
 use Rattle.nl_commit.specs.Notes.{shared}
 use Rattle.nl_cleaner.specs.Job.{JobView, next_by, next_cleaning, next_event}

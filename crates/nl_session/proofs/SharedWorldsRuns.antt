@@ -4,8 +4,8 @@ use Rattle.std.specs.List.{AllByRecursion}
 use Rattle.nl_types.specs.declared.event.Event.{Event}
 use Rattle.nl_types.specs.declared.event.Event.TheVariants.{Unmount}
 use Rattle.nl_types.specs.declared.reply.Answer.{Answer}
-use Rattle.nl_types.specs.Laws.{GivesBack}
-use Rattle.nl_types.specs.Worlds.{Reply, World}
+use Rattle.nl_types.specs.Plain.Laws.{GivesBack}
+use Rattle.nl_types.specs.Plain.Worlds.{Reply, World}
 use Rattle.nl_types.specs.Facts.Runs.{Run-more}
 use Rattle.nl_commit.specs.Layout.{DoesIn, MeansWorld}
 use Rattle.nl_commit.specs.Notes.{shared}

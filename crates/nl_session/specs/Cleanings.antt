@@ -1,7 +1,7 @@
 -- What a line that cleans leaves in use.
 use Rattle.std.specs.Prelude.{ℕ, All, IsOk}
 use Rattle.nl_commit.specs.Layout.{IsPen}
-use Rattle.nl_protect.specs.declared.config.Config.{Config}
+use Rattle.nl_config.specs.declared.config.Config.{Config}
 use Rattle.nl_cleaner.specs.Laws.{LeavesNothingDead, TakesEachDirty}
 use Rattle.nl_cleaner.specs.Rounds.{cleaning_habits}
 use Rattle.nl_script.specs.Lines.{IsRoundDone, LineEnd}

@@ -1,7 +1,7 @@
 -- What sessions know of their volumes.
 use Rattle.std.specs.Prelude.{◌≡◌, ℕ, List, if◌then◌else◌}
 use Rattle.nl_types.specs.declared.event.Mode.TheVariants.{Plain}
-use Rattle.nl_types.specs.Worlds.{World, checkpoint}
+use Rattle.nl_types.specs.Plain.Worlds.{World, checkpoint}
 use Rattle.nl_commit.specs.Layout.{Layout, MeansWorld}
 use Rattle.nl_keeping.specs.Beginnings.{IsOpenedPen}
 use Rattle.nl_keeping.specs.Endings.{SavesFrom}

@@ -5,10 +5,10 @@ use Rattle.nl_types.specs.declared.error.VolError.TheVariants.{Memory}
 use Rattle.nl_types.specs.declared.event.Event.{Event}
 use Rattle.nl_types.specs.declared.event.Event.TheVariants.{Mount, MountRead, Unmount}
 use Rattle.nl_types.specs.declared.reply.Answer.{Answer}
-use Rattle.nl_types.specs.Calls.{IsUnlessMemory}
-use Rattle.nl_types.specs.Runs.{Run}
-use Rattle.nl_types.specs.Worlds.{Reply, World, mount_read}
-use Rattle.nl_protect.specs.declared.config.Config.{Config}
+use Rattle.nl_types.specs.Plain.Calls.{IsUnlessMemory}
+use Rattle.nl_types.specs.Plain.Runs.{Run}
+use Rattle.nl_types.specs.Plain.Worlds.{Reply, World, mount_read}
+use Rattle.nl_config.specs.declared.config.Config.{Config}
 use Rattle.nl_commit.specs.Layout.{DoesIn, Layout, MeansWorld}
 use Rattle.nl_commit.specs.Notes.{shared}
 use Rattle.nl_cleaner.specs.Job.{JobView, job_after_reply, next_event}

@@ -13,7 +13,7 @@ use Rattle.nl_texts.specs.StreamTexts.{stream_text}
 use Rattle.nl_texts.specs.declared.refusals.StartStep.TheVariants.{Start}
 use Rattle.nl_texts.specs.Texts.{Text}
 use Rattle.nl_texts.specs.declared.streams.StandardStream.TheVariants.{Output}
-use Rattle.nl_protect.specs.declared.config.Config.{Config}
+use Rattle.nl_config.specs.declared.config.Config.{Config}
 use Rattle.nl_script.specs.Configurations.{ConfigurationRead, IsConfigured}
 use Rattle.nl_script.specs.Scripts.{IsScriptDone}
 use Rattle.nl_texts.specs.declared.ends.Done.{Done}

@@ -4,8 +4,8 @@ use Rattle.std.specs.List.{AllByRecursion}
 use Rattle.std.specs.Ordering.{nat_cmp}
 use Rattle.std.specs.FinMap.{find}
 use Rattle.nl_types.specs.declared.geometry.Geometry.{Geometry}
-use Rattle.nl_types.specs.Worlds.{World, formatted}
-use Rattle.nl_commit.specs.Commits.{image_of}
+use Rattle.nl_types.specs.Plain.Worlds.{World, formatted}
+use Rattle.nl_commit.specs.Commits.{shown_after}
 use Rattle.nl_commit.specs.Layout.{MeansWorld}
 use Rattle.nl_publish.specs.Locks.{listed}
 use Rattle.nl_publish.specs.Mounts.{Claim}
@@ -19,7 +19,7 @@ use Rattle.nl_shared.specs.SharedVolumes.{Sharing}
 -- the mount is there in the world, and was told of the copy that it shows
 pub record IsMountIn (w : World) (m : Claim) : Type 0 where
   pub mounted : find nat_cmp m.number w.mounts ≡ Some m.checkpoint
-  pub told : ShowsCopy (image_of m.told.commits) m.checkpoint w
+  pub told : ShowsCopy (shown_after m.told.commits) m.checkpoint w
 
 abbrev pub number_of : Claim → ℕ
 number_of m = m.number

@@ -4,11 +4,6 @@ ghost use Rattle.nl_session.specs.Laws.{SavedRunsComeBack, SavedVolumesComeBack}
 ghost use Rattle.nl_session.specs.SessionLaws.{RunsFollowWorlds, SessionsFollowWorlds, SharedVolumesFollowWorlds};
 ghost use Rattle.nl_session.specs.SharedLaws.{KeptVolumesAreBeside, NewVolumesAreBeside};
 
-use nl_cleaner::laws::rounds_leave_nothing_dead;
-use nl_core::laws::pens_of_one_image_mean_one_world;
-use nl_image::laws::store_images_have_the_present_mark;
-use nl_publish::laws::locked_runs_lead_on;
-use nl_types::laws::{copies_stay, mounts_stay};
 use std::io::Write;
 
 /// A new shared volume is beside a new world, and that of an image beside the world that its pen means. Where
@@ -19,9 +14,9 @@ pub fn shared_volumes_follow_worlds()
     ensures kept { KeptVolumesAreBeside }
     ensures follow { SharedVolumesFollowWorlds }
 {
-    copies_stay();
-    mounts_stay();
-    locked_runs_lead_on();
+    nl_types::laws::copies_stay();
+    nl_types::laws::mounts_stay();
+    nl_publish::laws::locked_runs_lead_on();
 }
 
 /// Whatever lines a session does on a volume that is beside a world, they lead to a world that it is beside
@@ -45,15 +40,15 @@ pub fn runs_follow_worlds<O: Write>()
 pub fn cleanings_leave_nothing_dead()
     ensures { CleaningsLeaveNothingDead }
 {
-    rounds_leave_nothing_dead();
+    nl_cleaner::laws::rounds_leave_nothing_dead();
 }
 
 /// A volume that was saved comes back as it was, but that no mount number was given yet.
 pub fn saved_volumes_come_back()
     ensures { SavedVolumesComeBack }
 {
-    store_images_have_the_present_mark();
-    pens_of_one_image_mean_one_world();
+    nl_image::laws::store_images_have_the_present_mark();
+    nl_core::laws::pens_of_one_image_mean_one_world();
 }
 
 /// So does what a run left: what is opened of its image means the world that it left, but that something dirty

@@ -7,6 +7,7 @@ ghost use Rattle.nl_keeping.specs.Telling.{errors_of};
 
 use nl_arguments::{Arguments, Asked, read};
 use nl_cleaner::Job;
+use nl_config::Config;
 use nl_core::Pen;
 use nl_device::MemDevice;
 use nl_keeping::{
@@ -14,7 +15,6 @@ use nl_keeping::{
     tell_configuration, tell_failure, tell_fault, tell_notice, tell_refusal, tell_words,
 };
 use nl_mounts::Port;
-use nl_protect::Config;
 use nl_publish::{Opened, Volumes};
 use nl_saving::SavePlace;
 use nl_script::{Readers, Runner, configuration};

@@ -5,11 +5,11 @@ use Rattle.nl_types.specs.declared.error.VolError.TheVariants.{Memory}
 use Rattle.nl_types.specs.declared.event.Event.{Event}
 use Rattle.nl_types.specs.declared.event.Event.TheVariants.{Unmount}
 use Rattle.nl_types.specs.declared.reply.Answer.{Answer}
-use Rattle.nl_types.specs.Runs.{Run}
-use Rattle.nl_types.specs.Worlds.{Reply}
+use Rattle.nl_types.specs.Plain.Runs.{Run}
+use Rattle.nl_types.specs.Plain.Worlds.{Reply}
 use Rattle.nl_commit.specs.Layout.{Does, IsPen, Layout}
 use Rattle.nl_commit.specs.Notes.{shared}
-use Rattle.nl_commit.specs.Rounds.{RoundHabits, RoundsEnd}
+use Rattle.nl_rounds.specs.Rounds.{RoundHabits, RoundsEnd}
 use Rattle.nl_publish.specs.Cleaning.{CleanRan, NotBegun, Over, Stepped}
 use Rattle.nl_publish.specs.Locks.{GoesBy, HeldPen, NotedStep, State, as_replies, given_back, state_of}
 

@@ -6,9 +6,9 @@ use Rattle.nl_types.specs.declared.error.VolError.TheVariants.{Memory}
 use Rattle.nl_types.specs.declared.event.Ask.{Ask}
 use Rattle.nl_types.specs.declared.event.Event.{Event}
 use Rattle.nl_types.specs.declared.event.Event.TheVariants.{Mount, MountRead, Unmount}
-use Rattle.nl_types.specs.Worlds.{Reply}
+use Rattle.nl_types.specs.Plain.Worlds.{Reply}
 use Rattle.nl_commit.specs.Layout.{Layout}
-use Rattle.nl_commit.specs.Rounds.{RoundHabits}
+use Rattle.nl_rounds.specs.Rounds.{RoundHabits}
 use Rattle.nl_publish.specs.Begun.{HasBegun}
 use Rattle.nl_publish.specs.Cleaning.{CleanRan}
 use Rattle.nl_publish.specs.Locks.{HeldPen, MountRan, Ran, mount_reply}

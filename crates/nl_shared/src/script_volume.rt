@@ -7,9 +7,10 @@ ghost use Rattle.nl_shared.specs.SharedVolumes.{HasBegunShared, IsHeldTold, IsRo
 ghost use Rattle.nl_script.specs.FileReads.{IsPortReply};
 ghost use Rattle.nl_types.specs.declared.event.Event.TheVariants as event;
 
-use nl_commit::{NotingPen, Round};
+use nl_commit::NotingPen;
 use nl_mounts::{Port, seat_all, spend_all};
 use nl_publish::{Gone, Locked, Mount, Opened, Publisher, Volumes};
+use nl_rounds::Round;
 use nl_script::{Volume, is_bad_mount};
 use nl_types::{Answer, Ask, CheckpointNumber, Event, MountNumber, Reply, VolError};
 use std::alloc::Global;

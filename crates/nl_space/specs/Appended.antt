@@ -4,10 +4,10 @@ use Rattle.std.specs.List.{AllByRecursion}
 use Rattle.nl_types.specs.declared.error.VolError.{VolError}
 use Rattle.nl_types.specs.declared.error.VolError.TheVariants.{NoSpace, Fault, Memory}
 use Rattle.nl_types.specs.declared.segment.Log.{Log}
-use Rattle.nl_types.specs.Segments.{IsUsed, with_error}
-use Rattle.nl_types.specs.Placing.{LogsFit, addresses, first_block, with_logs}
-use Rattle.nl_types.specs.PlacingLaws.{AreUnused}
-use Rattle.nl_types.specs.PartialMaps.{Stands}
+use Rattle.nl_types.specs.Blocks.Segments.{IsUsed, with_error}
+use Rattle.nl_types.specs.Blocks.Placing.{LogsFit, addresses, first_block, with_logs}
+use Rattle.nl_types.specs.Blocks.PlacingLaws.{AreUnused}
+use Rattle.nl_types.specs.Blocks.PartialMaps.{Stands}
 use Rattle.nl_device.specs.Pages.{DevicePages}
 use Rattle.nl_space.specs.Content.{Payload, HeldPayload, SpaceContent, payload_page, IsSameAt}
 use Rattle.nl_space.specs.Logs.{StandsFrom}

@@ -1,7 +1,7 @@
 -- What a space of blocks holds, block by block, in memory and on its device.
 use Rattle.std.specs.Prelude.{◌≡◌, ℕ, ◌+◌, ◌*◌, ◌<◌, ◌≤◌, ◌⊎◌, List, [], ◌∷◌, length, slice_get, Option, Some, None}
 use Rattle.nl_types.specs.declared.geometry.Geometry.{Geometry}
-use Rattle.nl_types.specs.Segments.{Segments, IsUsed, grown_to, with_clean}
+use Rattle.nl_types.specs.Blocks.Segments.{Segments, IsUsed, grown_to, with_clean}
 use Rattle.nl_sufile.specs.Table.{all_clean}
 use Rattle.nl_device.specs.Pages.{DevicePages}
 use Rattle.nl_layout.specs.declared.tag.Tag.{Tag}

@@ -1,6 +1,6 @@
 -- The blocks of an image, in the order of their numbers.
 use Rattle.std.specs.Prelude.{◌≡◌, ℕ, ◌*◌, ◌/◌, nat_lt, if◌then◌else◌, List, length, take, drop, flat_map, replicate, slice_get, None, Some}
-use Rattle.nl_types.specs.Segments.{Segments, IsUsed, total_blocks}
+use Rattle.nl_types.specs.Blocks.Segments.{Segments, IsUsed, total_blocks}
 use Rattle.nl_device.specs.Pages.{DevicePages}
 use Rattle.nl_space.specs.Content.{SpaceContent}
 

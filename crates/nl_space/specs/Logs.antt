@@ -1,6 +1,6 @@
 -- Whole logs: each a summary block, and its payload right behind it.
 use Rattle.std.specs.Prelude.{◌≡◌, ℕ, ◌+◌, ◌*◌, List, [], ◌∷◌, ◌++◌, length, map, Option, Some, None}
-use Rattle.nl_types.specs.Segments.{info_of}
+use Rattle.nl_types.specs.Blocks.Segments.{info_of}
 use Rattle.nl_device.specs.Pages.{DevicePages}
 use Rattle.nl_layout.specs.Summary.{Contents, SummaryHasSpelling, summary_bytes}
 use Rattle.nl_space.specs.Content.{Payload, HeldPayload, SpaceContent, payload_tag, payload_page, StandInRow}

@@ -1,6 +1,6 @@
 //! The blocks of an image.
 ghost use Rattle.std.specs.Prelude.{◌≡◌, ◌*◌, ◌<◌, ◌↔◌, IfErr, IsErrOf, IsTrue, OnOk, length};
-ghost use Rattle.nl_types.specs.Segments.{total_blocks};
+ghost use Rattle.nl_types.specs.Blocks.Segments.{total_blocks};
 ghost use Rattle.nl_device.specs.Failures.{CountsReads, FailsToRead};
 ghost use Rattle.nl_sufile.specs.Table.{IsSegTable};
 ghost use Rattle.nl_space.specs.Appended.{IsLoadError};

@@ -1,9 +1,9 @@
 //! What the layers above know of a space of blocks.
 ghost use Rattle.std.specs.Prelude.{◌≡◌, ◌+◌, ◌*◌, ◌<◌, ◌≤◌, length, IfErr, OnErr, OnOk, IfOk, IsErrOf, Some, option_copied};
 ghost use Rattle.std.specs.Option.{option_map};
-ghost use Rattle.nl_types.specs.Segments.{HaveLogs, IsUsed, StaysUsed, info_of};
-ghost use Rattle.nl_types.specs.Limits.{IsGeometry};
-ghost use Rattle.nl_types.specs.Placing.{LacksSpace};
+ghost use Rattle.nl_types.specs.Blocks.Segments.{HaveLogs, IsUsed, StaysUsed, info_of};
+ghost use Rattle.nl_types.specs.Plain.Limits.{IsGeometry};
+ghost use Rattle.nl_types.specs.Blocks.Placing.{LacksSpace};
 ghost use Rattle.nl_device.specs.Failures.{Failures, CountsReads, CountsWrites, FailsToRead, FailsToWrite};
 ghost use Rattle.nl_sufile.specs.Table.{IsSegTable};
 ghost use Rattle.nl_space.specs.Content.{SpaceContent, HoldsOnlyUsed, IsRowOf, KeepsUsed, IsFreed, IsGrown, payload_page};

@@ -5,9 +5,9 @@ use Rattle.std.proofs.lemmas.List.{get_or-set_same, get_or-set_other}
 use Rattle.nl_types.specs.declared.segment.Position.{Position}
 use Rattle.nl_types.specs.declared.segment.SegmentInfo.{SegmentInfo}
 use Rattle.nl_types.specs.declared.segment.SegmentState.TheVariants.{Dirty, Active, Error}
-use Rattle.nl_types.specs.GrowingLaws.{InfosStay, TidyStays}
-use Rattle.nl_types.specs.Limits.{IsGeometry}
-use Rattle.nl_types.specs.Segments.{Segments, is_active, clean_from, info_of, clean_info, none_active, active_from, active_place, with_active, with_error, with_clean, grown_to, IsTidy}
+use Rattle.nl_types.specs.Blocks.GrowingLaws.{InfosStay, TidyStays}
+use Rattle.nl_types.specs.Plain.Limits.{IsGeometry}
+use Rattle.nl_types.specs.Blocks.Segments.{Segments, is_active, clean_from, info_of, clean_info, none_active, active_from, active_place, with_active, with_error, with_clean, grown_to, IsTidy}
 use Rattle.nl_types.specs.Facts.SegmentChanges.{length-none_active, info_same, active_alone, tidy_changed, tidy_cleaned, tidy_at, lowest_is_clean}
 use Rattle.nl_types.specs.Facts.NextLogs.{has_active}
 use Rattle.std.proofs.Math.ListN.{replicate}

@@ -8,8 +8,8 @@ use Rattle.std.specs.List.{range_with_len}
 use Rattle.nl_types.specs.declared.segment.SegmentInfo.{SegmentInfo}
 use Rattle.nl_types.specs.declared.segment.SegmentState.{SegmentState}
 use Rattle.nl_types.specs.declared.segment.SegmentState.TheVariants.{Clean, Dirty, Active, Error}
-use Rattle.nl_types.specs.GrowingLaws.{CleanGrow, InfosStay}
-use Rattle.nl_types.specs.Segments.{Segments, at_rest, clean_from, clean_info, info_of, is_clean, none_active}
+use Rattle.nl_types.specs.Blocks.GrowingLaws.{CleanGrow, InfosStay}
+use Rattle.nl_types.specs.Blocks.Segments.{Segments, at_rest, clean_from, clean_info, info_of, is_clean, none_active}
 use Rattle.nl_sufile.specs.declared.clean.CleanSegments.{CleanSegments}
 use Rattle.nl_sufile.specs.BySegment.{bit}
 use Rattle.nl_sufile.specs.Private.Clean.{TellsClean}

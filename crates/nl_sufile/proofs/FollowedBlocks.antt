@@ -5,7 +5,7 @@ use Rattle.std.proofs.Math.Nat.{mul-le-mul_right}
 use Rattle.std.proofs.lemmas.Bool.{cases_eq, cases_lt, and_parts, leb-true, ltb-true}
 use Rattle.std.proofs.lemmas.Grind.{get_or-set_at}
 use Rattle.std.proofs.lemmas.List.{get_or-set_other, length-set}
-use Rattle.nl_types.specs.PartialMaps.{Partial}
+use Rattle.nl_types.specs.Blocks.PartialMaps.{Partial}
 use Rattle.nl_sufile.specs.BySegment.{AddedIsCounted, AreCounts, CountsAreFew, CountsChangeByOne, HasBlock, TakenIsCounted, TakenWasCounted, bit, count_in, count_to, lies_in, one_less, one_more}
 
 same-counts : (old new : ℕ → Bool) (n : ℕ) → ((w : ℕ) → w ≤ n → new w ≡ old w)

@@ -3,7 +3,7 @@ use Rattle.std.proofs.Common.{◌≡◌, ℕ, zero, suc, ◌+◌, ◌-◌, ◌<�
 use Rattle.std.specs.Prelude.{replicate, slice_index_or}
 use Rattle.std.proofs.lemmas.Bool.{cases_lt}
 use Rattle.std.proofs.lemmas.List.{get_or_past}
-use Rattle.nl_types.specs.PartialMaps.{Partial}
+use Rattle.nl_types.specs.Blocks.PartialMaps.{Partial}
 use Rattle.nl_sufile.specs.BySegment.{AreCounts, GrownAreCounted, bit, count_in, count_to, grown_counts, lies_in}
 
 -- no later number passes

@@ -3,14 +3,14 @@ use Rattle.std.proofs.Common.{◌≡◌, ℕ, ◌+◌, ◌-◌, ◌<◌, ◌≤�
 use borrow.Author.Tests.{leb-true}
 use Rattle.nl_types.specs.declared.segment.Log.{Log}
 use Rattle.nl_types.specs.declared.segment.Position.{Position}
-use Rattle.nl_types.specs.Placing.{place_behind, has_room, GoOn}
+use Rattle.nl_types.specs.Blocks.Placing.{place_behind, has_room, GoOn}
 use Rattle.nl_types.specs.Facts.GoingOn.{log_at, fill, Step, step_with_room, step_without_room, go_on_with_room, go_on_without_room, no_step}
-use Rattle.nl_sufile.specs.Private.NextPlace.{IsNext, IsNowhere}
+use Rattle.nl_sufile.specs.Private.NextPlace.{IsNextPlace, IsNowhere}
 
 -- the first log of a list that goes on is at the next place
 pub next_step : (b : Bool) (blocks : ℕ) (left : Option Position) (free : List ℕ) (place : Position)
     (others : List ℕ) (n : ℕ) (all : List Log)
-    → has_room blocks left ≡ b → IsNext b blocks left free place others → 0 < n → GoOn blocks left free n all
+    → has_room blocks left ≡ b → IsNextPlace b blocks left free place others → 0 < n → GoOn blocks left free n all
     → Step blocks place others n all
 next_step true blocks left free place others n all room h some g =
     let r : has_room blocks (Some place) ≡ true =
@@ -27,7 +27,7 @@ next_step false blocks left free place others n all room h some g =
 -- and what goes on behind that log goes on from here
 pub go_next : (b : Bool) (blocks : ℕ) (left : Option Position) (free : List ℕ) (place : Position)
     (others : List ℕ) (n : ℕ) (tail : List Log)
-    → has_room blocks left ≡ b → IsNext b blocks left free place others → 0 < n → 2 ≤ blocks
+    → has_room blocks left ≡ b → IsNextPlace b blocks left free place others → 0 < n → 2 ≤ blocks
     → GoOn blocks (Some (place_behind (log_at place (fill blocks place n)))) others
     (n - fill blocks place n) tail
     → GoOn blocks left free n (log_at place (fill blocks place n) ∷ tail)
@@ -58,7 +58,7 @@ nowhere_on blocks left free n all h some g = no_step blocks left n all h.room so
 pub onward_more : (blocks : ℕ) (left0 : Option Position) (free0 : List ℕ) (n : ℕ) (left : Option Position)
     (free : List ℕ) (rest : ℕ) (place : Position) (others : List ℕ) (logs more : List Log) (count : ℕ)
     → count ≡ fill blocks place rest → more ≡ logs ++ log_at place count ∷ []
-    → IsNext (has_room blocks left) blocks left free place others → 0 < rest → 2 ≤ blocks
+    → IsNextPlace (has_room blocks left) blocks left free place others → 0 < rest → 2 ≤ blocks
     → ((tail : List Log) → GoOn blocks left free rest tail → GoOn blocks left0 free0 n (logs ++ tail))
     → (tail : List Log) → GoOn blocks (Some (place_behind (log_at place count))) others (rest - count) tail
     → GoOn blocks left0 free0 n (more ++ tail)
@@ -77,7 +77,7 @@ onward_more blocks left0 free0 n left free rest place others logs more count e p
 pub only_more : (blocks : ℕ) (left0 : Option Position) (free0 : List ℕ) (n : ℕ) (left : Option Position)
     (free : List ℕ) (rest : ℕ) (place : Position) (others : List ℕ) (logs more : List Log) (count : ℕ)
     → count ≡ fill blocks place rest → more ≡ logs ++ log_at place count ∷ []
-    → IsNext (has_room blocks left) blocks left free place others → 0 < rest
+    → IsNextPlace (has_room blocks left) blocks left free place others → 0 < rest
     → ((all : List Log) → GoOn blocks left0 free0 n all
     → (tail : List Log) × (all ≡ logs ++ tail) × GoOn blocks left free rest tail)
     → (all : List Log) → GoOn blocks left0 free0 n all
@@ -103,7 +103,7 @@ go_on_nil blocks left free rest none =
 -- the next place has room
 pub next_fits : (b : Bool) (blocks : ℕ) (left : Option Position) (free : List ℕ) (place : Position)
     (others : List ℕ)
-    → has_room blocks left ≡ b → IsNext b blocks left free place others → 2 ≤ blocks
+    → has_room blocks left ≡ b → IsNextPlace b blocks left free place others → 2 ≤ blocks
     → place.block + 2 ≤ blocks
 next_fits true blocks left free place others room h two =
     let r : has_room blocks (Some place) ≡ true =

@@ -1,6 +1,6 @@
 -- Counts by segment, of numbers that have blocks.
 use Rattle.std.specs.Prelude.{◌≡◌, ◌≢◌, ℕ, zero, suc, ◌+◌, ◌-◌, ◌*◌, ◌<◌, ◌≤◌, ◌&&◌, nat_le, nat_lt, Bool, true, false, if◌then◌else◌, List, ◌++◌, length, replicate, slice_index_or, slice_set, Option, None, Some}
-use Rattle.nl_types.specs.PartialMaps.{Partial}
+use Rattle.nl_types.specs.Blocks.PartialMaps.{Partial}
 
 -- how many of the numbers 1 to n pass a test
 abbrev pub count_to : (ℕ → Bool) → ℕ → ℕ

@@ -2,7 +2,7 @@
 use Rattle.std.specs.Prelude.{◌≡◌, ℕ, ◌*◌, ◌<◌, true, List, length, take, drop, flat_map, All}
 use Rattle.nl_types.specs.declared.geometry.Geometry.{Geometry}
 use Rattle.nl_types.specs.declared.segment.SegmentInfo.{SegmentInfo}
-use Rattle.nl_types.specs.Segments.{Segments, AreTidy, HaveLogs, IsTidy, has_logs, info_of, is_active}
+use Rattle.nl_types.specs.Blocks.Segments.{Segments, AreTidy, HaveLogs, IsTidy, has_logs, info_of, is_active}
 use Rattle.nl_layout.specs.Segment.{HasSpelling, Spells, segment_bytes}
 
 -- the entries, one after the other

@@ -4,8 +4,8 @@ use Rattle.nl_types.specs.declared.geometry.Geometry.{Geometry}
 use Rattle.nl_types.specs.declared.error.VolError.{VolError}
 use Rattle.nl_types.specs.declared.error.VolError.TheVariants.{NoSpace, Memory}
 use Rattle.nl_types.specs.declared.segment.SegmentInfo.{SegmentInfo}
-use Rattle.nl_types.specs.Limits.{IsGeometry}
-use Rattle.nl_types.specs.Segments.{Segments, AreTidy, clean_info, info_of, is_active}
+use Rattle.nl_types.specs.Plain.Limits.{IsGeometry}
+use Rattle.nl_types.specs.Blocks.Segments.{Segments, AreTidy, clean_info, info_of, is_active}
 
 -- all segments, as they are on a new device
 abbrev pub all_clean : Geometry → Segments

@@ -1,12 +1,11 @@
 //! The clean segments of a table: how many they are, and where the lowest one is.
 ghost use Rattle.std.specs.Prelude.{◌≡◌, ◌+◌, ◌<◌, ◌≤◌, ◌∷◌, ◌++◌, [], List, replicate, MatchOption, Some, drop, false, length, slice_get, slice_set, take};
-ghost use Rattle.nl_types.specs.Limits as limits;
+ghost use Rattle.nl_types.specs.Plain.Limits as limits;
 ghost use Rattle.nl_types.specs.declared.segment.SegmentInfo.{SegmentInfo};
-ghost use Rattle.nl_types.specs.Segments.{clean_from, clean_info, info_of, is_clean, none_active};
+ghost use Rattle.nl_types.specs.Blocks.Segments.{clean_from, clean_info, info_of, is_clean, none_active};
 ghost use Rattle.nl_sufile.specs.Private.Clean.{IsNextClean, TellsClean};
 
-use nl_types::laws::growing_keeps_segments;
-use nl_types::{Segment, SegmentInfo, SegmentState};
+use nl_types::{Segment, SegmentInfo, SegmentState, laws};
 use std::marker::Model;
 
 /// What a table keeps of its clean segments, so that they are not counted anew, nor looked for from the first
@@ -90,7 +89,7 @@ impl CleanSegments {
         ensures { (each : List SegmentInfo) → TellsClean each self
             → TellsClean (each ++ replicate more clean_info) result }
     {
-        growing_keeps_segments();
+        laws::growing_keeps_segments();
         CleanSegments {
             count: self.count + more,
             mark: self.mark,
@@ -171,8 +170,8 @@ pub struct FreeSegments<'a> {
 
 impl<'a> Model for FreeSegments<'a> {
     ghost use Rattle.std.specs.Prelude.{ℕ, ◌≤◌, List, drop, length, take};
-    ghost use Rattle.nl_types.specs.Limits as limits;
-    ghost use Rattle.nl_types.specs.Segments.{clean_from};
+    ghost use Rattle.nl_types.specs.Plain.Limits as limits;
+    ghost use Rattle.nl_types.specs.Blocks.Segments.{clean_from};
 
     ghost Value = { List ℕ };
 

@@ -1,9 +1,9 @@
 //! The table of segments in an image.
 ghost use Rattle.std.specs.Prelude.{◌≡◌, ◌+◌, ◌*◌, ◌≤◌, ◌⊎◌, ◌↔◌, IsTrue, IfOk, IfErr, IfSome, MatchResult, OnErr, length, flat_map, List, Some, All};
-ghost use Rattle.nl_types.specs.Limits as limits;
+ghost use Rattle.nl_types.specs.Plain.Limits as limits;
 ghost use Rattle.nl_types.specs.declared.segment.SegmentInfo.{SegmentInfo};
-ghost use Rattle.nl_types.specs.Segments.{Segments};
-ghost use Rattle.nl_types.specs.Segments as segments;
+ghost use Rattle.nl_types.specs.Blocks.Segments.{Segments};
+ghost use Rattle.nl_types.specs.Blocks.Segments as segments;
 ghost use Rattle.nl_layout.specs.Segment.{HasSpelling, segment_bytes};
 ghost use Rattle.nl_sufile.specs.Images.{AreEntriesOf, HaveOneActive, IsEntryAt, IsSoundSegment, IsSufileOf, sufile_bytes};
 ghost use Rattle.nl_sufile.specs.Table.{IsActiveIn};

@@ -1,9 +1,9 @@
 //! Which logs an event's payload goes into.
 ghost use Rattle.std.specs.Prelude.{◌≡◌, ◌+◌, ◌≤◌, IfOk, IfErr, IsErrOf, IfSome, MatchOption, List};
-ghost use Rattle.nl_types.specs.Limits as limits;
+ghost use Rattle.nl_types.specs.Plain.Limits as limits;
 ghost use Rattle.nl_types.specs.declared.segment.Log.{Log};
-ghost use Rattle.nl_types.specs.Placing.{GoOn, has_room};
-ghost use Rattle.nl_sufile.specs.Private.NextPlace.{IsNowhere, IsNext};
+ghost use Rattle.nl_types.specs.Blocks.Placing.{GoOn, has_room};
+ghost use Rattle.nl_sufile.specs.Private.NextPlace.{IsNowhere, IsNextPlace};
 ghost use Rattle.nl_sufile.specs.Table.{IsNoSpaceOrMemory};
 
 use crate::clean::FreeSegments;
@@ -14,7 +14,7 @@ use std::alloc::Global;
 fn next_place(blocks: u32, left: Option<Position>, free: &mut FreeSegments<'_>) -> Option<Position>
     requires { IfSome left (λ place. place.block ≤ 4096) }
     ensures { MatchOption result (IsNowhere blocks left free.old)
-        (λ place. IsNext (has_room blocks left) blocks left free.old place free.new) }
+        (λ place. IsNextPlace (has_room blocks left) blocks left free.old place free.new) }
 {
     if let Some(place) = left
         && place.block + 2 <= blocks

@@ -2,16 +2,15 @@
 ghost use Rattle.std.specs.Prelude.{◌≡◌, ◌↔◌, ◌<◌, ◌≤◌, ◌+◌, ◌-◌, ◌++◌, length, IfOk, IfErr, IsErrOf, IsTrue, IfSome, IfNone, IsOkUnless, OnOk, slice_get, slice_set, replicate};
 ghost use Rattle.std.specs.Option.{ok_or};
 ghost use Rattle.nl_types.specs.declared.segment.SegmentState.TheVariants.{Active};
-ghost use Rattle.nl_types.specs.Limits.{IsGeometry};
-ghost use Rattle.nl_types.specs.Segments.{IsUsed, active_place, clean_segments, clean_info, free_segments, grown_to, info_of, lowest_clean, none_active, with_active, with_clean, with_error};
-ghost use Rattle.nl_types.specs.Placing.{LogsFit, LacksSpace, end_of, with_log};
+ghost use Rattle.nl_types.specs.Plain.Limits.{IsGeometry};
+ghost use Rattle.nl_types.specs.Blocks.Segments.{IsUsed, active_place, clean_segments, clean_info, free_segments, grown_to, info_of, lowest_clean, none_active, with_active, with_clean, with_error};
+ghost use Rattle.nl_types.specs.Blocks.Placing.{LogsFit, LacksSpace, end_of, with_log};
 ghost use Rattle.nl_sufile.specs.Table.{IsSegTable, IsActiveIn, IsNoSpaceOrMemory, all_clean};
 
 use crate::clean::{CleanSegments, FreeSegments};
 use crate::placing::place_on;
-use nl_types::laws::growing_keeps_segments;
 use nl_types::{
-    BlockNumber, Geometry, Items, Log, Position, Segment, SegmentInfo, SegmentState, VolError,
+    BlockNumber, Geometry, Items, Log, Position, Segment, SegmentInfo, SegmentState, VolError, laws,
 };
 use std::alloc::{AllocError, Global};
 use std::marker::Model;
@@ -26,7 +25,7 @@ pub struct SegTable {
 }
 
 impl Model for SegTable {
-    ghost use Rattle.nl_types.specs.Segments.{Segments};
+    ghost use Rattle.nl_types.specs.Blocks.Segments.{Segments};
     ghost use Rattle.nl_sufile.specs.Private.Clean.{TellsClean};
     ghost use Rattle.nl_sufile.specs.Table.{IsSegTable, IsActiveIn};
 
@@ -208,7 +207,7 @@ impl SegTable {
         ensures limits { IfOk result IsSegTable }
         ensures refused { IsOkUnless result VolError.Memory }
     {
-        growing_keeps_segments();
+        laws::growing_keeps_segments();
         let each = grown_rows(alloc, self.each.as_slice(), segments)?;
         let more = segments as usize - self.each.len();
         let clean = self.clean.with_more(more);

@@ -3,10 +3,10 @@ use Rattle.std.proofs.Common.{◌≡◌, ℕ, zero, suc, ◌+◌, List, [], Opti
 use Rattle.std.specs.Option.{option_map}
 use Rattle.nl_types.specs.declared.error.VolError.{VolError}
 use Rattle.nl_types.specs.declared.error.VolError.TheVariants.{Fault, Memory, NoSpace}
-use Rattle.nl_types.specs.Entries.{Content, written}
-use Rattle.nl_types.specs.Lifetimes.{Ledger, blank}
-use Rattle.nl_types.specs.Roots.{Root}
-use Rattle.nl_types.specs.Trees.{Tree}
+use Rattle.nl_types.specs.Blocks.Entries.{Content, written}
+use Rattle.nl_types.specs.Blocks.Lifetimes.{Ledger, blank}
+use Rattle.nl_types.specs.Blocks.Roots.{Root}
+use Rattle.nl_types.specs.Plain.Trees.{Tree}
 use Rattle.nl_device.specs.Failures.{Failures}
 use Rattle.nl_space.specs.Content.{SpaceContent}
 use Rattle.nl_vstore.specs.Batches.{Changes, CanBeTaken}

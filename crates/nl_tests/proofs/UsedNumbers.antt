@@ -1,8 +1,8 @@
 -- The numbers of a store that have pages.
 use Rattle.std.proofs.Common.{◌≡◌, ◌≤◌, ℕ, Option, Some, None, refl, ap}
 use Rattle.std.specs.Option.{IsSome, option_map}
-use Rattle.nl_types.specs.Entries.{Entry}
-use Rattle.nl_types.specs.Roots.{pages_of}
+use Rattle.nl_types.specs.Blocks.Entries.{Entry}
+use Rattle.nl_types.specs.Blocks.Roots.{pages_of}
 use Rattle.nl_vstore.specs.Stores.{IsStore, Numbered, Store, block_now, capacity, content_in, entry_now, numbered_in}
 
 -- a number with a page is one of those that there are

@@ -4,12 +4,12 @@ ghost use Rattle.std.specs.Prelude.{◌≡◌};
 use crate::logs::NONE_FAILS;
 use crate::volumes::{add_file, checkpoint, closes_again, do_event, image_of, volume, write};
 use nl_cleaner::Job;
+use nl_config::{Amount, Config};
 use nl_core::Pen;
 use nl_device::FaultDevice;
 use nl_mounts::{Gate, JobAnswer, Port, ReadJob, Shared, is_mount_event, read_many, share};
-use nl_protect::{Amount, Config};
 use nl_publish::{Mount, Opened, Volumes};
-use nl_types::{Answer, CheckpointNumber, Event, Items, Mode, Reply, VolError};
+use nl_types::{Answer, CheckpointNumber, Event, Items, Mode, Moment, Reply, VolError};
 use std::alloc::Global;
 use std::marker::Brand;
 use std::sync::Wait;
@@ -160,7 +160,7 @@ fn cleans<J: Volumes, R: Wait>(
     alloc: Global,
     shared: &Volume<J>,
 ) -> Result<bool, VolError> {
-    let mut job: Job = shared.plan(rt, alloc, &config(), 0)?;
+    let mut job: Job = shared.plan(rt, alloc, &config(), Moment::new(0))?;
     for _ in 0..STEPS {
         if shared.clean_step(rt, &mut job).is_none() {
             return Ok(true);

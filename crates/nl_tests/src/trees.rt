@@ -2,14 +2,14 @@
 ghost use Rattle.std.specs.Prelude.{◌≡◌, [], IfOk, OnOk};
 
 use crate::logs::{NONE_FAILS, space};
-use nl_check::{Met, walk_file};
+use nl_blocktree::{Met, blocks, walk};
 use nl_dat::Dat;
 use nl_device::FaultDevice;
 use nl_files::settle;
 use nl_layout::Root;
 use nl_segwriter::LogSpace;
 use nl_tree::CurrentTree;
-use nl_types::{CheckpointNumber, VirtualNumber, VolError};
+use nl_types::{CheckpointNumber, VolError};
 use nl_vstore::{Batch, Vstore};
 use std::alloc::Global;
 use std::marker::Model;
@@ -27,8 +27,8 @@ struct Trees {
 
 impl Model for Trees {
     ghost use Rattle.std.specs.Prelude.{◌≡◌};
-    ghost use Rattle.nl_types.specs.Lifetimes.{Ledger};
-    ghost use Rattle.nl_types.specs.Trees.{Tree};
+    ghost use Rattle.nl_types.specs.Blocks.Lifetimes.{Ledger};
+    ghost use Rattle.nl_types.specs.Plain.Trees.{Tree};
     ghost use Rattle.nl_layout.specs.Root.{root_of};
     ghost use Rattle.nl_vstore.specs.Stores.{content_in};
     ghost use Rattle.nl_tree.specs.Became.{Current};
@@ -74,26 +74,18 @@ impl Trees {
         Ok(batch)
     }
 
-    /// How many blocks the file of inodes has, data and nodes, or none where it has not its shape.
-    fn block_count(&self, alloc: Global) -> Result<Option<u64>, VolError> {
+    /// How many blocks the file of inodes has, data and nodes, or none where something is wrong with it.
+    fn block_count(&self, alloc: Global) -> Result<Option<usize>, VolError> {
         let last = self.store.capacity();
         let mut met = Met::none(alloc, last)?;
-        match walk_file(&self.store, &mut met, self.root) {
-            Some(_) => Ok(Some(met_count(&met, last))),
-            None => Ok(None),
+        match walk(&self.store, &mut met, self.root) {
+            Ok(count) => {
+                let blocks = blocks(alloc, &self.store, &self.root, count)?;
+                Ok(Some(blocks.len()))
+            }
+            Err(_) => Ok(None),
         }
     }
-}
-
-/// How many numbers were met, from 1 to the last one.
-fn met_count(met: &Met, last: u64) -> u64 {
-    let mut count: u64 = 0;
-    for below in 0..last {
-        if met.has(VirtualNumber::new(below + 1)) {
-            count = count.saturating_add(1);
-        }
-    }
-    count
 }
 
 /// Whether the first checkpoint has a block of inodes and its node, and nothing else.

@@ -2,7 +2,7 @@
 use Rattle.std.specs.Prelude.{ℕ, List, [], ◌∷◌, ◌++◌, codes}
 use Rattle.std.specs.Fmt.{decimal}
 use Rattle.std.specs.List.{flat_map}
-use Rattle.nl_types.specs.Characters.{line_feed, slash}
+use Rattle.nl_types.specs.Plain.Characters.{line_feed, slash}
 use Rattle.nl_types.specs.declared.kind.Kind.{Kind}
 use Rattle.nl_types.specs.declared.kind.Kind.TheVariants as kind
 use Rattle.nl_types.specs.declared.reply.Named.{Named}

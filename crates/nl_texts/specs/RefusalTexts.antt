@@ -1,8 +1,8 @@
 -- What is printed where a line is refused, or is no command.
 use Rattle.std.specs.Prelude.{ℕ, List, [], ◌∷◌, ◌++◌, codes, Option, None, Some}
 use Rattle.std.specs.Fmt.{decimal}
-use Rattle.nl_types.specs.Characters.{blank_space, line_feed}
-use Rattle.nl_types.specs.Refusals.{refusal_number, name_of}
+use Rattle.nl_types.specs.Plain.Characters.{blank_space, line_feed}
+use Rattle.nl_types.specs.Plain.Refusals.{refusal_number, name_of}
 use Rattle.nl_types.specs.declared.error.VolError.{VolError}
 use Rattle.nl_types.specs.declared.error.VolError.TheVariants.{BadImage, BadConfig}
 use Rattle.nl_texts.specs.Texts.{Text}

@@ -2,8 +2,8 @@
 use Rattle.std.specs.Prelude.{ℕ, Bool, true, false, not, ◌||◌, if◌then◌else◌, List, [], ◌∷◌, ◌++◌, codes, Option, None, Some}
 use Rattle.std.specs.Fmt.{decimal}
 use Rattle.std.specs.List.{flat_map, enumerate_from}
-use Rattle.nl_types.specs.Characters.{blank_space, line_feed}
-use Rattle.nl_types.specs.Segments.{is_clean}
+use Rattle.nl_types.specs.Plain.Characters.{blank_space, line_feed}
+use Rattle.nl_types.specs.Blocks.Segments.{is_clean}
 use Rattle.nl_types.specs.declared.segment.SegmentInfo.{SegmentInfo}
 use Rattle.nl_types.specs.declared.segment.SegmentState.{SegmentState}
 use Rattle.nl_types.specs.declared.segment.SegmentState.TheVariants.{Clean, Dirty, Active, Error}

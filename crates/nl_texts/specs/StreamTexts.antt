@@ -1,6 +1,6 @@
 -- What is said of a standard stream that fails, and to a terminal.
 use Rattle.std.specs.Prelude.{ℕ, List, [], ◌∷◌, ◌++◌, codes}
-use Rattle.nl_types.specs.Characters.{line_feed}
+use Rattle.nl_types.specs.Plain.Characters.{line_feed}
 use Rattle.nl_texts.specs.Texts.{Text}
 use Rattle.nl_texts.specs.declared.streams.StandardStream.{StandardStream}
 use Rattle.nl_texts.specs.declared.streams.StandardStream.TheVariants.{Input, Output}

@@ -1,5 +1,5 @@
 -- Texts, and their places in columns.
-use Rattle.nl_types.specs.Characters.{blank_space}
+use Rattle.nl_types.specs.Plain.Characters.{blank_space}
 use Rattle.std.specs.Prelude.{ℕ, ◌-◌, List, ◌++◌, length, replicate}
 
 -- bytes as they are printed

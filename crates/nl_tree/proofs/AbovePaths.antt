@@ -6,8 +6,8 @@ use Rattle.std.specs.Option.{option_copied, option_eq}
 use Rattle.std.proofs.Math.Seq.{drop-append_seam}
 use Rattle.std.proofs.lemmas.Bool.{eqb-false, eqb-true}
 use Rattle.std.proofs.lemmas.List.Splits.{join_with_byte-slice_split, length-slice_split}
-use Rattle.nl_types.specs.Calls.{is_above}
-use Rattle.nl_types.specs.Paths.{Path, is_within, same_path}
+use Rattle.nl_types.specs.Plain.Calls.{is_above}
+use Rattle.nl_types.specs.Plain.Paths.{Path, is_within, same_path}
 use Rattle.nl_types.specs.Facts.Booleans.{not_true}
 use Rattle.nl_types.specs.Facts.Lookups.{is_within-append, same_path-itself, within_is}
 use Rattle.nl_types.specs.Facts.TreeLaws.{same_path-equal}

@@ -3,8 +3,8 @@ use Rattle.std.proofs.Common.{◌≡◌, subst, sym, Result, OnOk}
 use Rattle.std.specs.Prelude.{MatchResult, Ok, Err}
 use Rattle.nl_types.specs.declared.error.VolError.{VolError}
 use Rattle.nl_types.specs.declared.reply.Answer.{Answer}
-use Rattle.nl_types.specs.Calls.{Changed}
-use Rattle.nl_types.specs.Worlds.{Reply}
+use Rattle.nl_types.specs.Plain.Calls.{Changed}
+use Rattle.nl_types.specs.Plain.Worlds.{Reply}
 use Rattle.nl_tree.specs.Became.{Current}
 use Rattle.nl_tree.specs.CurrentTrees.{AnswersCall}
 use Rattle.nl_tree.specs.Held.{Holding}

@@ -10,10 +10,10 @@ use Rattle.nl_types.specs.declared.reply.Answer.{Answer}
 use Rattle.nl_types.specs.declared.reply.Answer.TheVariants as answer
 use Rattle.nl_types.specs.declared.reply.Node.{Node}
 use Rattle.nl_types.specs.declared.reply.Node.TheVariants.{Dir}
-use Rattle.nl_types.specs.Limits.{path_limit}
-use Rattle.nl_types.specs.Paths.{Name, Path}
-use Rattle.nl_types.specs.Trees.{Tree, insert, lookup, remove}
-use Rattle.nl_types.specs.Calls.{and_then, create, is_root, refuse_if, rmdir, unlink}
+use Rattle.nl_types.specs.Plain.Limits.{path_limit}
+use Rattle.nl_types.specs.Plain.Paths.{Name, Path}
+use Rattle.nl_types.specs.Plain.Trees.{Tree, insert, lookup, remove}
+use Rattle.nl_types.specs.Plain.Calls.{and_then, create, is_root, refuse_if, rmdir, unlink}
 use Rattle.nl_types.specs.Inodes.{Inodes, Link, MeansTree}
 use Rattle.nl_types.specs.Judging.{bytes_in, has_any, judge_create}
 use Rattle.nl_types.specs.Resolving.{IsNamed, as_dir, record_in, resolve, resolve_from, step_to}

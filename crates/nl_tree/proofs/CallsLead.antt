@@ -6,11 +6,11 @@ use Rattle.nl_types.specs.declared.kind.Kind.{Kind}
 use Rattle.nl_types.specs.declared.kind.Kind.TheVariants as kind
 use Rattle.nl_types.specs.declared.reply.Answer.{Answer}
 use Rattle.nl_types.specs.declared.reply.Answer.TheVariants as answer
-use Rattle.nl_types.specs.Limits.{file_limit}
-use Rattle.nl_types.specs.Paths.{Name, Path}
-use Rattle.nl_types.specs.Trees.{Tree}
-use Rattle.nl_types.specs.Roots.{Blocks}
-use Rattle.nl_types.specs.Calls.{Changed, create, write, truncate, unlink, rmdir, rename, overwritten, resized}
+use Rattle.nl_types.specs.Plain.Limits.{file_limit}
+use Rattle.nl_types.specs.Plain.Paths.{Name, Path}
+use Rattle.nl_types.specs.Plain.Trees.{Tree}
+use Rattle.nl_types.specs.Blocks.Roots.{Blocks}
+use Rattle.nl_types.specs.Plain.Calls.{Changed, create, write, truncate, unlink, rmdir, rename, overwritten, resized}
 use Rattle.nl_types.specs.Inodes.{Link, Inodes, MeansTree}
 use Rattle.nl_types.specs.declared.reply.Node.TheVariants.{Dir}
 use Rattle.nl_types.specs.InodeChanges.{Refills}

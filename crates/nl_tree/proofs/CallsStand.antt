@@ -8,9 +8,9 @@ use Rattle.nl_types.specs.declared.kind.Kind.{Kind}
 use Rattle.nl_types.specs.declared.kind.Kind.TheVariants as kind
 use Rattle.nl_types.specs.declared.reply.Answer.{Answer}
 use Rattle.nl_types.specs.declared.reply.Answer.TheVariants as answer
-use Rattle.nl_types.specs.Paths.{Name, Path, is_name, path_of}
-use Rattle.nl_types.specs.Trees.{Tree}
-use Rattle.nl_types.specs.Calls.{Changed, and_then, create, rmdir, unlink}
+use Rattle.nl_types.specs.Plain.Paths.{Name, Path, is_name, path_of}
+use Rattle.nl_types.specs.Plain.Trees.{Tree}
+use Rattle.nl_types.specs.Plain.Calls.{Changed, and_then, create, rmdir, unlink}
 use Rattle.nl_types.specs.Inodes.{Link}
 use Rattle.nl_dirs.specs.declared.record.Record.{Record}
 use Rattle.nl_tree.specs.Became.{Current, holding_over}

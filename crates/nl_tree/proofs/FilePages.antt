@@ -7,7 +7,7 @@ use Rattle.std.specs.BTreeMap as map
 use Rattle.std.specs.BTreeMap.{BTreeMap, WritesThrough}
 use Rattle.std.proofs.lemmas.Bool.{cases_lt, eqb-true, lt-ltb, le-ltb}
 use Rattle.std.proofs.lemmas.Map.Keys.{ge_from_not_lt}
-use Rattle.nl_types.specs.Roots.{Blocks}
+use Rattle.nl_types.specs.Blocks.Roots.{Blocks}
 use Rattle.nl_tree.specs.declared.overlay.FileBlocks.{FileBlocks}
 use Rattle.nl_tree.specs.declared.overlay.Changed.{Changed}
 use Rattle.nl_tree.specs.declared.overlay.Changed.TheVariants.{Gone, File, Dir}

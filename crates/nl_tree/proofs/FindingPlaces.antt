@@ -2,9 +2,9 @@
 use Rattle.std.proofs.Common.{◌≡◌, ℕ, List, [], ◌∷◌, ◌++◌, Option, Result, Ok, Err, refl, sym, ap, ◌∙◌, append_assoc, ◌<◌, length, arith}
 use Rattle.nl_types.specs.declared.error.VolError.{VolError}
 use Rattle.nl_types.specs.declared.kind.Kind.TheVariants as kind
-use Rattle.nl_types.specs.Calls.{and_then}
+use Rattle.nl_types.specs.Plain.Calls.{and_then}
 use Rattle.nl_types.specs.Inodes.{Inodes, Link}
-use Rattle.nl_types.specs.Paths.{Name, Path}
+use Rattle.nl_types.specs.Plain.Paths.{Name, Path}
 use Rattle.nl_types.specs.Resolving.{as_dir, resolve, resolve_from, step_to}
 use Rattle.nl_tree.specs.Held.{Holding, held_record, inodes_of_holding}
 use Rattle.nl_tree.specs.Naming.{IsPlaceOf, IsPlaceRefused}

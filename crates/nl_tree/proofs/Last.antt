@@ -4,7 +4,7 @@ use Rattle.std.specs.Prelude.{slice_index_or}
 use Rattle.std.specs.Ordering.{ordering_reverse}
 use Rattle.std.specs.Cmp.Lexicographic.{nat_list_cmp_total}
 use Rattle.std.proofs.lemmas.List.{append_assoc}
-use Rattle.nl_types.specs.Paths.{Name, name_cmp}
+use Rattle.nl_types.specs.Plain.Paths.{Name, name_cmp}
 use Rattle.nl_dirs.specs.declared.record.Record.{Record}
 use Rattle.nl_dirs.specs.Records.{NamesAscend}
 use Rattle.nl_tree.specs.Records.{with_record}

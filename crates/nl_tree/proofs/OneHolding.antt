@@ -8,7 +8,7 @@ use Rattle.std.specs.BTreeMap as map
 use Rattle.std.proofs.lemmas.Result.{on_ok_weaker}
 use Rattle.nl_types.specs.declared.error.VolError.{VolError}
 use Rattle.nl_types.specs.declared.kind.Kind.{Kind}
-use Rattle.nl_types.specs.Paths.{Name}
+use Rattle.nl_types.specs.Plain.Paths.{Name}
 use Rattle.nl_dirs.specs.declared.record.Record.{Record}
 use Rattle.nl_tree.specs.declared.overlay.FileBlocks.{FileBlocks}
 use Rattle.nl_tree.specs.declared.overlay.Changed.{Changed}
@@ -16,7 +16,7 @@ use Rattle.nl_tree.specs.declared.overlay.Changed.TheVariants.{Gone, File, Dir}
 use Rattle.nl_tree.specs.declared.overlay.Slot.{Slot}
 use Rattle.nl_tree.specs.declared.overlay.Overlay.{Overlay}
 use Rattle.nl_tree.specs.Became.{Current, holding_over, over_if_became}
-use Rattle.nl_types.specs.Roots.{Blocks}
+use Rattle.nl_types.specs.Blocks.Roots.{Blocks}
 use Rattle.nl_tree.specs.Private.Files.{IsFileOf}
 use Rattle.nl_tree.specs.Held.{Held, Holding, Stored, held_block}
 use Rattle.nl_tree.specs.Numbers.{CountsFree, CountsFreeNow, CountsNumbers, IsFreedIn, IsNumberFreed}

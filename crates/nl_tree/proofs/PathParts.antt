@@ -7,7 +7,7 @@ use Rattle.std.proofs.lemmas.List.{take-append-drop, drop_more}
 use Rattle.std.proofs.lemmas.List.Elements.{All-head, All-tail, All-weaker}
 use Rattle.std.specs.List.{join_with_byte}
 use Rattle.std.proofs.lemmas.List.Splits.{join_with_byte-slice_split, slice_split_none, slice_split_at}
-use Rattle.nl_types.specs.Paths.{is_name}
+use Rattle.nl_types.specs.Plain.Paths.{is_name}
 use Rattle.nl_tree.specs.Private.PathParts.{DividesAtSlash, IsOnePart, IsPartEnd, parts_of}
 
 abbrev is_slash : ℕ → Bool

@@ -9,9 +9,9 @@ use Rattle.std.proofs.lemmas.List.Folds.{list_all-append}
 use Rattle.nl_types.specs.declared.error.VolError.{VolError}
 use Rattle.nl_types.specs.declared.error.VolError.TheVariants.{BadName, BadPath}
 use Rattle.nl_types.specs.declared.kind.Kind.{Kind}
-use Rattle.nl_types.specs.Paths.{Name, Path, is_name, names_of, path_of, same_name}
-use Rattle.nl_types.specs.Trees.{Tree, lookup}
-use Rattle.nl_types.specs.Calls.{and_then}
+use Rattle.nl_types.specs.Plain.Paths.{Name, Path, is_name, names_of, path_of, same_name}
+use Rattle.nl_types.specs.Plain.Trees.{Tree, lookup}
+use Rattle.nl_types.specs.Plain.Calls.{and_then}
 use Rattle.nl_types.specs.Inodes.{Inodes, Link, MeansTree}
 use Rattle.nl_types.specs.Resolving.{record_in}
 use Rattle.nl_types.specs.Facts.Inodes.Resolving.{child_record, dir_stands, inode}

@@ -6,7 +6,7 @@ use Rattle.std.proofs.lemmas.Bool.{cases_lt}
 use Rattle.std.proofs.lemmas.Bool.Decides.{nat_tests}
 use Rattle.std.proofs.lemmas.List.{get_or_append_left, length-append, length-drop, length-replicate, length-take}
 use borrow.Rule.Slice.PartMut.{put_mid}
-use Rattle.nl_types.specs.Roots.{Blocks}
+use Rattle.nl_types.specs.Blocks.Roots.{Blocks}
 use Rattle.nl_tree.specs.Contents.{byte_in}
 use Rattle.nl_tree.specs.Bytes.{AreBytesOver, byte_over}
 use Rattle.nl_tree.specs.Held.{byte_stored}

@@ -8,7 +8,7 @@ use Rattle.std.specs.declared.cmp.Ordering.{Ordering}
 use Rattle.std.specs.declared.cmp.Ordering.TheVariants.{Less, Equal, Greater}
 use Rattle.std.proofs.lemmas.List.Elements.{All-head, All-tail, All-cons, All-nil}
 use Rattle.std.proofs.lemmas.List.Kept.{AllPairs-cons}
-use Rattle.nl_types.specs.Paths.{Name, name_cmp, same_name}
+use Rattle.nl_types.specs.Plain.Paths.{Name, name_cmp, same_name}
 use Rattle.nl_types.specs.declared.kind.Kind.{Kind}
 use Rattle.nl_types.specs.Facts.Lookups.{names_equal, same_name-itself, same_name-equal}
 use Rattle.nl_dirs.specs.declared.record.Record.{Record}

@@ -12,9 +12,9 @@ use Rattle.nl_types.specs.declared.kind.Kind.{Kind}
 use Rattle.nl_types.specs.declared.kind.Kind.TheVariants as kind
 use Rattle.nl_types.specs.declared.reply.Answer.{Answer}
 use Rattle.nl_types.specs.declared.reply.Answer.TheVariants as answer
-use Rattle.nl_types.specs.Paths.{Name, Path, is_name, names_of, path_of, same_path}
-use Rattle.nl_types.specs.Trees.{Tree}
-use Rattle.nl_types.specs.Calls.{and_then, is_above, is_root, refuse_if, rename}
+use Rattle.nl_types.specs.Plain.Paths.{Name, Path, is_name, names_of, path_of, same_path}
+use Rattle.nl_types.specs.Plain.Trees.{Tree}
+use Rattle.nl_types.specs.Plain.Calls.{and_then, is_above, is_root, refuse_if, rename}
 use Rattle.nl_types.specs.Inodes.{Inodes, Link}
 use Rattle.nl_types.specs.InodeCallLaws.{tree_if_moved}
 use Rattle.nl_types.specs.Judging.{is_dir_kind, judge_rename, may_take}

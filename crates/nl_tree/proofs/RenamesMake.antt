@@ -8,9 +8,9 @@ use Rattle.nl_types.specs.declared.error.VolError.{VolError}
 use Rattle.nl_types.specs.declared.error.VolError.TheVariants.{Memory}
 use Rattle.nl_types.specs.declared.reply.Answer.TheVariants as answer
 use Rattle.nl_types.specs.declared.reply.Node.{Node}
-use Rattle.nl_types.specs.Paths.{Name, Path, is_name, path_of}
-use Rattle.nl_types.specs.Trees.{Tree}
-use Rattle.nl_types.specs.Calls.{Changed, rename}
+use Rattle.nl_types.specs.Plain.Paths.{Name, Path, is_name, path_of}
+use Rattle.nl_types.specs.Plain.Trees.{Tree}
+use Rattle.nl_types.specs.Plain.Calls.{Changed, rename}
 use Rattle.nl_types.specs.Inodes.{Link, MeansTree, node_of}
 use Rattle.nl_types.specs.Judging.{judge_rename}
 use Rattle.nl_types.specs.Resolving.{record_in}
@@ -19,7 +19,7 @@ use Rattle.nl_types.specs.Facts.Inodes.Standing.{zipped}
 use Rattle.nl_dirs.specs.declared.record.Record.{Record}
 use Rattle.nl_dirs.specs.Records.{NamesAscend, entry_of}
 use Rattle.nl_tree.specs.declared.overlay.Overlay.{Overlay}
-use Rattle.nl_tree.specs.declared.renames.Move.{Move}
+use Rattle.nl_tree.specs.declared.renames.PlannedRename.{PlannedRename}
 use Rattle.nl_tree.specs.Became.{Current, holding_over}
 use Rattle.nl_tree.specs.CurrentTrees.{AnswersCall, HasRenamed, LeavesTree, StandsOver, without_replaced}
 use Rattle.nl_tree.specs.Held.{Held, Holding, IsHolding, IsInodeNumber, Listed, inode_content, inodes_of_holding}
@@ -66,7 +66,7 @@ module _ (held : Holding) (tree : Tree) (sound : IsHolding held)
 
 module _ (held : Holding) (tree : Tree) (sound : IsHolding held)
     (means : MeansTree (inodes_of_holding held) tree)
-    (from to : Path) (m : Move) (is : FindsMove held from to m) where
+    (from to : Path) (m : PlannedRename) (is : FindsMove held from to m) where
   -- both directories of a move are listed
   pub move-directories : (all others : List Record) × AreDirectoriesOf m held all others
   move-directories =
@@ -84,7 +84,7 @@ module _ (held : Holding) (tree : Tree) (sound : IsHolding held)
   )
 
 -- the directories of a move that the lists have are those of the maps
-pub directories_inside : (o : Overlay) (now : Current) (base : Holding) (m : Move) (all others : List Record)
+pub directories_inside : (o : Overlay) (now : Current) (base : Holding) (m : PlannedRename) (all others : List Record)
     →
     IsOrderly o → current_of o ≡ now → AreDirectoriesOf m (holding_over now.became base) all others →
     AreDirectoriesOf m (holding_now o base) all others

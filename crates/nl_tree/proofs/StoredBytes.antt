@@ -5,8 +5,8 @@ use Rattle.std.proofs.lemmas.List.{get_or_append_left, get_or_past, get_or-take,
 use Rattle.std.proofs.lemmas.List.FromFn.{get_or-map-range_with_len, length-map-range_with_len}
 use Rattle.std.proofs.lemmas.Bool.{cases_lt}
 use Rattle.std.proofs.lemmas.Bool.Decides.{nat_tests}
-use Rattle.nl_types.specs.Calls.{overwritten, resized}
-use Rattle.nl_types.specs.Roots.{Blocks}
+use Rattle.nl_types.specs.Plain.Calls.{overwritten, resized}
+use Rattle.nl_types.specs.Blocks.Roots.{Blocks}
 use Rattle.nl_tree.specs.Held.{byte_stored, bytes_stored}
 use Rattle.nl_tree.specs.Bytes.{Overwrites, Resizes, byte_written}
 use Rattle.nl_tree.specs.Facts.PageBytes.{written_above, written_below, written_in, zero_at}

@@ -1,7 +1,7 @@
 -- A walk by the bytes of a path is the walk by its names.
 use Rattle.std.proofs.Common.{◌≡◌, ℕ, List, [], Result, Ok, Err, refl, sym, ap, ◌∙◌}
 use Rattle.nl_types.specs.declared.error.VolError.{VolError}
-use Rattle.nl_types.specs.Calls.{and_then}
+use Rattle.nl_types.specs.Plain.Calls.{and_then}
 use Rattle.nl_types.specs.Inodes.{Inodes, Link}
 use Rattle.nl_types.specs.Resolving.{resolve_from, step_to}
 use Rattle.nl_tree.specs.Private.PathParts.{DividesAtSlash, IsOnePart, parts_of}

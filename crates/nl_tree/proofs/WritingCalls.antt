@@ -9,11 +9,11 @@ use Rattle.nl_types.specs.declared.kind.Kind.TheVariants as kind
 use Rattle.nl_types.specs.declared.reply.Answer.{Answer}
 use Rattle.nl_types.specs.declared.reply.Answer.TheVariants as answer
 use Rattle.nl_types.specs.declared.reply.Node.TheVariants as node
-use Rattle.nl_types.specs.Limits.{file_limit}
-use Rattle.nl_types.specs.Paths.{Path, path_of}
-use Rattle.nl_types.specs.Trees.{Tree, insert}
-use Rattle.nl_types.specs.Roots.{Blocks}
-use Rattle.nl_types.specs.Calls.{Changed, and_then, file_at, overwritten, refuse_if, resized, truncate, write}
+use Rattle.nl_types.specs.Plain.Limits.{file_limit}
+use Rattle.nl_types.specs.Plain.Paths.{Path, path_of}
+use Rattle.nl_types.specs.Plain.Trees.{Tree, insert}
+use Rattle.nl_types.specs.Blocks.Roots.{Blocks}
+use Rattle.nl_types.specs.Plain.Calls.{Changed, and_then, file_at, overwritten, refuse_if, resized, truncate, write}
 use Rattle.nl_types.specs.Inodes.{Bytes, Inodes, Link}
 use Rattle.nl_types.specs.Judging.{bytes_in, bytes_of}
 use Rattle.nl_types.specs.Resolving.{resolve}

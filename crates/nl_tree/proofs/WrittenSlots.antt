@@ -1,18 +1,18 @@
 -- What a write to one slot of an overlay keeps.
-use Rattle.std.proofs.Common.{◌≡◌, ◌⊎◌, inl, inr, ℕ, Bool, true, false, Option, Some, refl, sym, ap, subst, ◌∙◌, IsSome}
+use Rattle.std.proofs.Common.{◌≡◌, ◌==◌, ◌⊎◌, inl, inr, ℕ, Bool, true, false, Option, None, Some, refl, sym, ap, subst, ◌∙◌, IsSome}
 use Rattle.std.specs.Prelude.{cond, is_some}
 use Rattle.std.specs.Ordering.{nat_cmp}
 use Rattle.std.specs.BTreeMap as map
 use Rattle.std.specs.BTreeMap.{BTreeMap, WritesThrough, is_at}
-use Rattle.std.proofs.lemmas.Bool.{cases_eq}
+use Rattle.std.proofs.lemmas.Bool.{cases_eq, ne_eqb}
 use Rattle.nl_tree.specs.declared.overlay.Changed.{Changed}
 use Rattle.nl_tree.specs.declared.overlay.Changed.TheVariants.{File}
 use Rattle.nl_tree.specs.declared.overlay.FileBlocks.{FileBlocks}
 use Rattle.nl_tree.specs.declared.overlay.Overlay.{Overlay}
 use Rattle.nl_tree.specs.declared.overlay.Slot.{Slot}
-use Rattle.nl_tree.specs.Held.{Held, Holding}
-use Rattle.nl_tree.specs.Overlays.{HasOrderedPages, IsOrderly, over_changed, over_if_slot}
-use Rattle.nl_tree.specs.Facts.Places.{one_slot, slot_kept, slot_written}
+use Rattle.nl_tree.specs.Held.{Held, Holding, IsInodeNumber}
+use Rattle.nl_tree.specs.Overlays.{HasOrderedPages, IsOrderly, is_shown, over_changed, over_if_slot, over_slot}
+use Rattle.nl_tree.specs.Facts.Places.{one_slot, slot_kept, slot_written, tied}
 
 module _ (m n : BTreeMap ℕ Slot) (j : ℕ) (slot w : Slot) (writes : WritesThrough nat_cmp (nat_cmp j) m w n)
     (there : Some slot ≡ map.get nat_cmp m j) where
@@ -86,3 +86,82 @@ written_still m n j slot what writes there over b i = by_test (cases_eq i j)
         ∙ ap (λ (p : Option Slot). over_if_slot p (b i)) (there ∙ ap (map.get nat_cmp m) (sym e))
     by_test (inr ne) =
         ap (λ (p : Option Slot). over_if_slot p (b i)) (slot_kept m n j i written writes some ne)
+
+-- what shows where a slot is written, place by place
+pub written_shown : (m n : BTreeMap ℕ Slot) (j : ℕ) (what : Changed)
+    → WritesThrough nat_cmp (nat_cmp j) m (record { live = true; what = what }) n →
+    IsSome (map.get nat_cmp m j) → (b : Holding) (i : ℕ)
+    → over_if_slot (map.get nat_cmp n i) (b i)
+    ≡ cond (i == j) (over_changed what (b i)) (over_if_slot (map.get nat_cmp m i) (b i))
+written_shown m n j what writes there b i =
+    ap (λ (p : Option Slot). over_if_slot p (b i))
+    ((writes.3 there).0 i ∙ ap (λ (t : Bool). cond t (Some w) (map.get nat_cmp m i)) (tied j i))
+    ∙ pick (i == j) (map.get nat_cmp m i) (b i)
+  where
+    w : Slot
+    w = record { live = true; what = what }
+
+    pick : (t : Bool) (p : Option Slot) (base : Option Held)
+        → over_if_slot (cond t (Some w) p) base ≡ cond t (over_changed what base) (over_if_slot p base)
+    pick true p base = refl
+    pick false p base = refl
+
+-- ---- a slot that is put in
+
+-- a place that isn't shown leaves what the checkpoint holds
+unshown : (p : Option Slot) (base : Option Held) → is_shown p ≡ false → over_if_slot p base ≡ base
+unshown None base none = refl
+unshown (Some slot) base none = ap (λ (t : Bool). cond t (over_changed slot.what base) base) none
+
+module _ (m n : BTreeMap ℕ Slot) (j : ℕ) (w : Slot) (updates : map.Updates nat_cmp m n j (Some w)) where
+  inserted_at : (i : ℕ) → map.get nat_cmp n i ≡ cond (i == j) (Some w) (map.get nat_cmp m i)
+  inserted_at i =
+      updates.0 i ∙ ap (λ (t : Bool). cond t (Some w) (map.get nat_cmp m i)) (tied j i)
+
+  -- the other places stay
+  pub inserted_others : (i : ℕ) → (i ≡ j → ⊥) → map.get nat_cmp n i ≡ map.get nat_cmp m i
+  inserted_others i ne =
+      inserted_at i ∙ ap (λ (t : Bool). cond t (Some w) (map.get nat_cmp m i)) (ne_eqb i j ne)
+
+  inserted_there : (i : ℕ) → i ≡ j → map.get nat_cmp n i ≡ Some w
+  inserted_there i e = ap (map.get nat_cmp n) e ∙ updates.1
+
+  -- a hidden slot shows nothing, where nothing was shown
+  pub inserted_still : w.live ≡ false → is_shown (map.get nat_cmp m j) ≡ false → (b : Holding) (i : ℕ)
+      → over_if_slot (map.get nat_cmp n i) (b i) ≡ over_if_slot (map.get nat_cmp m i) (b i)
+  inserted_still hidden none b i = by_test (cases_eq i j)
+    where
+      by_test : (i ≡ j) ⊎ (i ≡ j → ⊥)
+          → over_if_slot (map.get nat_cmp n i) (b i) ≡ over_if_slot (map.get nat_cmp m i) (b i)
+      by_test (inl e) =
+          unshown (map.get nat_cmp n i) (b i)
+          (ap (λ (p : Option Slot). is_shown p) (inserted_there i e) ∙ hidden)
+          ∙ sym (unshown (map.get nat_cmp m i) (b i)
+          (ap (λ (k : ℕ). is_shown (map.get nat_cmp m k)) e ∙ none))
+      by_test (inr ne) = ap (λ (p : Option Slot). over_if_slot p (b i)) (inserted_others i ne)
+
+  -- an overlay stays orderly
+  pub inserted_orderly : (o : Overlay) → o.changed ≡ m → map.IsOrdered nat_cmp n → IsInodeNumber j
+      → HasOrderedPages w.what → IsOrderly o → IsOrderly (record o { changed = n })
+  inserted_orderly o is ordered number pages orderly = record {
+    keys = ordered;
+    freed_numbers = orderly.freed_numbers;
+    files = λ i s file at file_is. file_at i s file at file_is (cases_eq i j);
+    inodes = λ i has. number_at i has (cases_eq i j);
+  }
+    where
+      file_at : (i : ℕ) (s : Slot) (file : FileBlocks) → map.get nat_cmp n i ≡ Some s → s.what ≡ File file
+          → (i ≡ j) ⊎ (i ≡ j → ⊥) → map.IsOrdered nat_cmp file.pages
+      file_at i s file at file_is (inl e) =
+          let same : w ≡ s = one_slot (map.get nat_cmp n i) w s (sym (inserted_there i e)) at in
+          pages file (ap (λ (x : Slot). x.what) same ∙ file_is)
+      file_at i s file at file_is (inr ne) =
+          orderly.files i s file
+          (ap (λ changed. map.get nat_cmp changed i) is ∙ sym (inserted_others i ne) ∙ at) file_is
+
+      number_at : (i : ℕ) → IsSome (map.get nat_cmp n i) → (i ≡ j) ⊎ (i ≡ j → ⊥) → IsInodeNumber i
+      number_at i has (inl e) = subst (λ (k : ℕ). IsInodeNumber k) (sym e) number
+      number_at i has (inr ne) =
+          orderly.inodes i
+          (ap (λ changed. is_some (map.get nat_cmp changed i)) is
+          ∙ ap (λ (p : Option Slot). is_some p) (sym (inserted_others i ne)) ∙ has)

@@ -1,7 +1,7 @@
 -- Bytes of a file that are written or cut, in words of its blocks.
 use Rattle.std.specs.Prelude.{◌≡◌, ℕ, zero, suc, ◌/◌, ◌%◌, cond, [], ◌∷◌, Option, Some, None, MatchOption, ◌+◌, ◌-◌, ◌*◌, ◌<◌, ◌&&◌, ◌||◌, max, nat_le, nat_lt, if◌then◌else◌, Bool, List, length, is_some, slice_index}
 use Rattle.std.specs.List.{slice_get}
-use Rattle.nl_types.specs.Roots.{Blocks}
+use Rattle.nl_types.specs.Blocks.Roots.{Blocks}
 use Rattle.nl_tree.specs.Contents.{byte_in}
 use Rattle.nl_tree.specs.Held.{Holding, IsHolding, Stored, byte_stored, IsFileHeld}
 use Rattle.nl_tree.specs.Steps.{with_held}

@@ -1,6 +1,6 @@
 -- What the blocks of a file hold.
 use Rattle.std.specs.Prelude.{◌≡◌, ℕ, ◌*◌, ◌/◌, ◌%◌, ◌≤◌, List, length, slice_index, Option, None, Some}
-use Rattle.nl_types.specs.Roots.{Blocks}
+use Rattle.nl_types.specs.Blocks.Roots.{Blocks}
 
 -- a byte of a block, where a hole stands for zeros
 abbrev pub byte_in : Option (List ℕ) → ℕ → ℕ

@@ -1,15 +1,15 @@
 -- The current tree over a checkpoint, and what calls make of it.
 use Rattle.std.specs.Prelude.{◌≡◌, ◌≢◌, ◌⊎◌, ℕ, ◌+◌, ◌≤◌, max, length, List, [], ◌∷◌, Option, None, Some, Result, Ok, Err, MatchResult, OnOk}
-use Rattle.nl_types.specs.Limits.{path_limit}
+use Rattle.nl_types.specs.Plain.Limits.{path_limit}
 use Rattle.nl_types.specs.declared.error.VolError.{VolError}
 use Rattle.nl_types.specs.declared.error.VolError.TheVariants.{Memory}
 use Rattle.nl_types.specs.declared.kind.Kind.{Kind}
 use Rattle.nl_types.specs.declared.kind.Kind.TheVariants as kind
 use Rattle.nl_types.specs.declared.reply.Answer.{Answer}
-use Rattle.nl_types.specs.Paths.{Name, Path, path_of}
-use Rattle.nl_types.specs.Trees.{Tree}
-use Rattle.nl_types.specs.Roots.{Blocks}
-use Rattle.nl_types.specs.Calls.{Changed}
+use Rattle.nl_types.specs.Plain.Paths.{Name, Path, path_of}
+use Rattle.nl_types.specs.Plain.Trees.{Tree}
+use Rattle.nl_types.specs.Blocks.Roots.{Blocks}
+use Rattle.nl_types.specs.Plain.Calls.{Changed}
 use Rattle.nl_types.specs.Inodes.{Link}
 use Rattle.nl_dirs.specs.declared.record.Record.{Record}
 use Rattle.nl_tree.specs.Held.{Holding, IsHolding, Listed, Stored}

@@ -1,6 +1,6 @@
 -- The tree of a new volume.
 use Rattle.std.specs.Prelude.{ℕ, List, [], ◌∷◌, None}
-use Rattle.nl_types.specs.Limits.{first_inode}
+use Rattle.nl_types.specs.Plain.Limits.{first_inode}
 use Rattle.nl_tree.specs.Held.{Holding}
 use Rattle.nl_tree.specs.Became.{Became, BecameDirectory, Current, holding_over}
 

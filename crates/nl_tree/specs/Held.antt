@@ -2,13 +2,13 @@
 use Rattle.std.specs.Prelude.{◌≡◌, ◌⊎◌, ℕ, IsTrue, ◌≤◌, ◌*◌, ◌/◌, ◌%◌, List, [], length, map, Option, None, Some}
 use Rattle.std.specs.List.{All, range_with_len}
 use Rattle.std.specs.Option.{option_map}
-use Rattle.nl_types.specs.Limits.{file_limit, first_inode, last_inode, path_limit, root_inode}
-use Rattle.nl_types.specs.Paths.{Name, is_name}
+use Rattle.nl_types.specs.Plain.Limits.{file_limit, first_inode, last_inode, path_limit, root_inode}
+use Rattle.nl_types.specs.Plain.Paths.{Name, is_name}
 use Rattle.nl_types.specs.declared.kind.Kind.{Kind}
 use Rattle.nl_types.specs.declared.kind.Kind.TheVariants as kind
 use Rattle.nl_types.specs.declared.reply.Node.{Node}
 use Rattle.nl_types.specs.declared.reply.Node.TheVariants.{Dir, File}
-use Rattle.nl_types.specs.Roots.{Blocks}
+use Rattle.nl_types.specs.Blocks.Roots.{Blocks}
 use Rattle.nl_types.specs.Inodes.{InodeContent, Bytes, Records, Inodes}
 use Rattle.nl_dirs.specs.declared.record.Record.{Record}
 use Rattle.nl_dirs.specs.Records.{NamesAscend, entry_of}

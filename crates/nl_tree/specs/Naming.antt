@@ -1,8 +1,8 @@
 -- Where the last name of a path stands.
 use Rattle.std.specs.Prelude.{◌≡◌, ℕ, [], ◌∷◌, ◌++◌, List, map, Option, None, Some, Err}
 use Rattle.nl_types.specs.declared.error.VolError.{VolError}
-use Rattle.nl_types.specs.Paths.{Name, Path}
-use Rattle.nl_types.specs.Calls.{and_then}
+use Rattle.nl_types.specs.Plain.Paths.{Name, Path}
+use Rattle.nl_types.specs.Plain.Calls.{and_then}
 use Rattle.nl_types.specs.Inodes.{Link}
 use Rattle.nl_types.specs.Judging.{Listing}
 use Rattle.nl_types.specs.Resolving.{IsNamed, as_dir, resolve}

@@ -3,8 +3,8 @@ use Rattle.std.specs.Prelude.{◌≡◌, ℕ, Bool, false, nat_lt, cond, List, I
 use Rattle.std.specs.Option.{option_flatten, option_or}
 use Rattle.std.specs.Ordering.{nat_cmp}
 use Rattle.std.specs.BTreeMap as map
-use Rattle.nl_types.specs.Paths.{Name}
-use Rattle.nl_types.specs.Roots.{Blocks}
+use Rattle.nl_types.specs.Plain.Paths.{Name}
+use Rattle.nl_types.specs.Blocks.Roots.{Blocks}
 use Rattle.nl_dirs.specs.declared.record.Record.{Record}
 use Rattle.nl_dirs.specs.Records.{NamesAscend}
 use Rattle.nl_tree.specs.declared.overlay.FileBlocks.{FileBlocks}

@@ -3,7 +3,7 @@ use Rattle.std.specs.Prelude.{ℕ, cond, List, [], ◌∷◌, IsSome}
 use Rattle.std.specs.Ordering.{nat_cmp, match_ordering}
 use Rattle.std.specs.BTreeMap as map
 use Rattle.std.specs.Cmp.Lexicographic.{slice_cmp}
-use Rattle.nl_types.specs.Paths.{Name, name_cmp, same_name}
+use Rattle.nl_types.specs.Plain.Paths.{Name, name_cmp, same_name}
 use Rattle.nl_types.specs.declared.kind.Kind.{Kind}
 use Rattle.nl_dirs.specs.declared.record.Record.{Record}
 use Rattle.nl_tree.specs.Shown.{itself, shown_entries}

@@ -1,9 +1,9 @@
 -- Changes of what inodes hold.
 use Rattle.std.specs.Prelude.{◌≡◌, ◌⊎◌, ◌≤◌, ℕ, ◌==◌, cond, List, Option, Some, None}
-use Rattle.nl_types.specs.Limits.{first_inode, inode_limit, path_limit}
+use Rattle.nl_types.specs.Plain.Limits.{first_inode, inode_limit, path_limit}
 use Rattle.nl_types.specs.declared.error.VolError.{VolError}
 use Rattle.nl_types.specs.declared.error.VolError.TheVariants.{Memory, TooBig}
-use Rattle.nl_types.specs.Paths.{Name}
+use Rattle.nl_types.specs.Plain.Paths.{Name}
 use Rattle.nl_types.specs.declared.kind.Kind.{Kind}
 use Rattle.nl_types.specs.Inodes.{AreInUseFrom, IsLowestFreeInode}
 use Rattle.nl_dirs.specs.declared.record.Record.{Record}

@@ -1,8 +1,8 @@
 -- The tree that what inodes hold stands for.
 use Rattle.std.specs.Prelude.{◌≡◌, ℕ, ◌+◌, length, Ok}
-use Rattle.nl_types.specs.Trees.{Tree}
+use Rattle.nl_types.specs.Plain.Trees.{Tree}
 use Rattle.nl_types.specs.Inodes.{MeansTree}
-use Rattle.nl_types.specs.Calls.{Changed}
+use Rattle.nl_types.specs.Plain.Calls.{Changed}
 use Rattle.nl_types.specs.declared.reply.Answer.{Answer}
 use Rattle.nl_tree.specs.Held.{Holding, inodes_of_holding}
 

@@ -1,7 +1,7 @@
 //! Calls that make and take away names.
 ghost use Rattle.std.specs.Prelude.{◌≡◌, OnErr};
-ghost use Rattle.nl_types.specs.Calls.{and_then, create, rmdir, unlink};
-ghost use Rattle.nl_types.specs.Paths.{path_of};
+ghost use Rattle.nl_types.specs.Plain.Calls.{and_then, create, rmdir, unlink};
+ghost use Rattle.nl_types.specs.Plain.Paths.{path_of};
 ghost use Rattle.nl_types.specs.declared.kind.Kind.TheVariants as kind;
 ghost use Rattle.nl_tree.specs.CurrentTrees.{AltersAs, AnswersAs, CanCall, HasCreated, HasRemoved};
 ghost use Rattle.nl_tree.specs.Held.{new_node};
@@ -76,7 +76,7 @@ impl CurrentTree {
             Some((_, Kind::Directory)) => Err(VolError::IsDir),
             Some((inode, Kind::File)) => {
                 self.overlay
-                    .remove(alloc, base, place.directory, place.name, inode.get())
+                    .remove(alloc, base, place.directory, place.name, inode)
             }
         }
     }
@@ -106,11 +106,11 @@ impl CurrentTree {
             None => Err(VolError::NotFound),
             Some((_, Kind::File)) => Err(VolError::NotDir),
             Some((inode, Kind::Directory)) => {
-                if self.view(base).name_count(inode.get()) > 0 {
+                if self.view(base).name_count(inode) > 0 {
                     return Err(VolError::NotEmpty);
                 }
                 self.overlay
-                    .remove(alloc, base, place.directory, place.name, inode.get())
+                    .remove(alloc, base, place.directory, place.name, inode)
             }
         }
     }

@@ -1,9 +1,9 @@
 //! What became of one inode.
 ghost use Rattle.std.specs.Prelude.{◌≡◌, ◌+◌, ◌<◌, ◌^◌, ℕ, length, List, Option, Some, IfErr, OnOk};
 ghost use Rattle.nl_types.specs.declared.error.VolError;
-ghost use Rattle.nl_types.specs.Paths.{Name};
+ghost use Rattle.nl_types.specs.Plain.Paths.{Name};
 ghost use Rattle.nl_dirs.specs.declared.record.Record.{Record};
-ghost use Rattle.nl_types.specs.Roots.{Blocks};
+ghost use Rattle.nl_types.specs.Blocks.Roots.{Blocks};
 ghost use Rattle.nl_tree.specs.Private.Files.{ShowsFile, ShowsFileWith};
 ghost use Rattle.nl_tree.specs.Held.{Held, Stored, held_record, new_held};
 ghost use Rattle.nl_tree.specs.Overlays.{HasOrderedPages, IsListed, IsListedWith, became_of, over_changed};

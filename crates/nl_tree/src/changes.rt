@@ -1,7 +1,7 @@
 //! All calls that change the tree, as one.
 ghost use Rattle.std.specs.Prelude.{◌≡◌, Err, MatchResult, Ok, OnErr};
 ghost use Rattle.nl_types.specs.declared.reply.Answer;
-ghost use Rattle.nl_types.specs.Calls.{change};
+ghost use Rattle.nl_types.specs.Plain.Calls.{change};
 ghost use Rattle.nl_tree.specs.Changing.{HasChangedHolding};
 ghost use Rattle.nl_tree.specs.CurrentTrees.{AltersAs, AnswersAs, CanCall};
 

@@ -2,9 +2,9 @@
 ghost use Rattle.std.specs.Prelude.{◌≡◌, ◌≢◌, ◌==◌, ◌+◌, ◌≤◌, ℕ, true, cond, List, Some, None, IsSome, IfErr, IfOk, OnErr, OnOk};
 ghost use Rattle.std.specs.BTreeMap as map;
 ghost use Rattle.std.specs.Ordering.{nat_cmp};
-ghost use Rattle.nl_types.specs.Limits as limits;
+ghost use Rattle.nl_types.specs.Plain.Limits as limits;
 ghost use Rattle.nl_types.specs.declared.error.VolError;
-ghost use Rattle.nl_types.specs.Paths.{Name};
+ghost use Rattle.nl_types.specs.Plain.Paths.{Name};
 ghost use Rattle.nl_dirs.specs.declared.record.Record.{Record};
 ghost use Rattle.nl_tree.specs.Held.{Holding, IsInodeNumber};
 ghost use Rattle.nl_tree.specs.Numbers.{CountsFreeNow};
@@ -22,7 +22,7 @@ impl Overlay {
     pub(crate) fn reserve_name(
         &mut self,
         alloc: Global,
-        dir: u64,
+        dir: InodeNumber,
         name: &[u8],
     ) -> Result<(), VolError>
         ensures orderly { IsOrderly self.old → IsOrderly self.new }
@@ -45,7 +45,7 @@ impl Overlay {
     }
 
     /// Puts a record into a directory, where it has a place.
-    pub(crate) fn link(&mut self, dir: u64, name: &[u8], link: Link)
+    pub(crate) fn link(&mut self, dir: InodeNumber, name: &[u8], link: Link)
         requires { (all : List Record) × HasName self.old dir all name.now }
         ensures orderly { IsOrderly self.old → IsOrderly self.new }
         ensures shown { (all : List Record) → HasName self.old dir all name.now → (b : Holding) (i : ℕ)
@@ -61,7 +61,7 @@ impl Overlay {
     }
 
     /// Takes a record out of a directory whose records can change. Its place stays.
-    pub(crate) fn unlink(&mut self, dir: u64, name: &[u8])
+    pub(crate) fn unlink(&mut self, dir: InodeNumber, name: &[u8])
         requires { (all : List Record) × HasName self.old dir all name.now }
         ensures orderly { IsOrderly self.old → IsOrderly self.new }
         ensures shown { (all : List Record) → HasName self.old dir all name.now → (b : Holding) (i : ℕ)
@@ -84,9 +84,9 @@ impl Overlay {
         &mut self,
         alloc: Global,
         base: &B,
-        dir: u64,
+        dir: InodeNumber,
         name: &[u8],
-        inode: u64,
+        inode: InodeNumber,
         kind: Kind,
     ) -> Result<(), VolError>
         requires directory { (b : Holding) × (all : List Record) × B.TreeRead.holds base.now b
@@ -103,7 +103,7 @@ impl Overlay {
         self.reserve(inode)?;
         self.open_directory(alloc, base, dir)?;
         self.reserve_name(alloc, dir, name)?;
-        self.link(dir, name, (InodeNumber::new(inode), kind));
+        self.link(dir, name, (inode, kind));
         self.show(inode, Changed::empty(alloc, kind));
         Ok(())
     }
@@ -116,10 +116,10 @@ impl Overlay {
         &mut self,
         alloc: Global,
         base: &B,
-        dir: u64,
+        dir: InodeNumber,
         name: &[u8],
         kind: Kind,
-    ) -> Result<u64, VolError>
+    ) -> Result<InodeNumber, VolError>
         requires { (b : Holding) × (all : List Record) × B.TreeRead.holds base.now b
             × IsDirectoryOf (holding_now self.old b) dir all × CountsFreeNow self.old b }
         ensures orderly { IsOrderly self.old → IsInodeNumber dir → IsOrderly self.new }
@@ -152,9 +152,9 @@ impl Overlay {
         &mut self,
         alloc: Global,
         base: &B,
-        dir: u64,
+        dir: InodeNumber,
         name: &[u8],
-        inode: u64,
+        inode: InodeNumber,
     ) -> Result<(), VolError>
         requires directory { (b : Holding) × (all : List Record) × B.TreeRead.holds base.now b
             × IsDirectoryOf (holding_now self.old b) dir all }
@@ -182,7 +182,7 @@ impl Overlay {
     }
 
     /// Takes an inode away. Its number is to be given first, and there is one name less.
-    pub(crate) fn drop_inode(&mut self, inode: u64)
+    pub(crate) fn drop_inode(&mut self, inode: InodeNumber)
         requires slot { HasSlot self.old inode }
         requires number { IsSome (map.get nat_cmp self.old.freed inode) }
         requires counted { 1 ≤ self.old.names }

@@ -1,7 +1,7 @@
 //! Blocks of files.
 ghost use Rattle.std.specs.Prelude.{◌≡◌, ◌+◌, ◌≤◌, ◌<◌, ◌^◌, ℕ, length, Some, IfErr, OnErr, OnOk};
-ghost use Rattle.nl_types.specs.Limits as limits;
-ghost use Rattle.nl_types.specs.Roots.{Blocks};
+ghost use Rattle.nl_types.specs.Plain.Limits as limits;
+ghost use Rattle.nl_types.specs.Blocks.Roots.{Blocks};
 ghost use Rattle.nl_types.specs.declared.error.VolError;
 ghost use Rattle.nl_tree.specs.Private.Files.{HasFile, HasFileWith, IsFileOf};
 ghost use Rattle.nl_tree.specs.Held.{Holding, IsInodeNumber, Stored};
@@ -12,16 +12,19 @@ ghost use Rattle.nl_tree.specs.Steps.{with_held};
 
 use crate::overlay::{Changed, FileBlocks, Overlay};
 use crate::tree_read::Base;
-use nl_types::{Page, VolError};
+use nl_types::limits::FILE_BLOCK_LIMIT;
+use nl_types::{InodeNumber, Page, VolError};
 use std::alloc::Global;
 use std::collections::BTreeMap;
 
-/// How many blocks a file has at most.
-const BLOCK_LIMIT: u64 = 65_536;
-
 impl Overlay {
     /// Makes a file's blocks ones that can change. Nothing that shows changes. Refused by `Memory` alone.
-    fn open_file<B: Base>(&mut self, alloc: Global, base: &B, inode: u64) -> Result<(), VolError>
+    fn open_file<B: Base>(
+        &mut self,
+        alloc: Global,
+        base: &B,
+        inode: InodeNumber,
+    ) -> Result<(), VolError>
         ensures orderly { IsOrderly self.old → IsInodeNumber inode → IsOrderly self.new }
         ensures same { current_of self.new ≡ current_of self.old }
         ensures rest { KeepsRest self.old self.new }
@@ -36,14 +39,14 @@ impl Overlay {
         }
         let file = FileBlocks {
             size: base.size(inode),
-            cut: BLOCK_LIMIT,
+            cut: FILE_BLOCK_LIMIT,
             pages: BTreeMap::new(alloc),
         };
         self.hide(inode, Changed::File(file))
     }
 
     /// Keeps places for blocks of a file whose blocks can change. Nothing that shows changes.
-    fn reserve_pages(&mut self, inode: u64, first: u64, end: u64) -> Result<(), VolError>
+    fn reserve_pages(&mut self, inode: InodeNumber, first: u64, end: u64) -> Result<(), VolError>
         ensures orderly { IsOrderly self.old → IsOrderly self.new }
         ensures same { current_of self.new ≡ current_of self.old }
         ensures rest { KeepsRest self.old self.new }
@@ -60,7 +63,7 @@ impl Overlay {
 
     /// Puts blocks of a file, one behind the other, to places that are kept for them, and gives the file a
     /// size.
-    fn put_pages(&mut self, inode: u64, size: u64, first: u64, pages: Vec<Page>)
+    fn put_pages(&mut self, inode: InodeNumber, size: u64, first: u64, pages: Vec<Page>)
         requires fits { first + length pages.items < 2 ^ 64 }
         requires places { (b : Holding) × (was : ℕ) × (blocks : Blocks)
             × HasFileWith self.old b inode was blocks first (first + length pages.items) }
@@ -88,7 +91,7 @@ impl Overlay {
         &mut self,
         alloc: Global,
         base: &B,
-        inode: u64,
+        inode: InodeNumber,
         size: u64,
         first: u64,
         pages: Vec<Page>,
@@ -120,7 +123,7 @@ impl Overlay {
     }
 
     /// Makes blocks from an index on of a file whose blocks can change ones that don't show any more.
-    fn cut_blocks(&mut self, inode: u64, count: u64)
+    fn cut_blocks(&mut self, inode: InodeNumber, count: u64)
         requires { (b : Holding) × (size : ℕ) × (blocks : Blocks) × HasFile self.old b inode size blocks }
         ensures orderly { IsOrderly self.old → IsOrderly self.new }
         ensures shown { (b : Holding) (size : ℕ) (blocks : Blocks) → HasFile self.old b inode size blocks
@@ -142,7 +145,7 @@ impl Overlay {
         &mut self,
         alloc: Global,
         base: &B,
-        inode: u64,
+        inode: InodeNumber,
         size: u64,
         first: u64,
         pages: Vec<Page>,

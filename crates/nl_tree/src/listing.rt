@@ -1,7 +1,7 @@
 //! The records of a directory that changed.
 ghost use Rattle.std.specs.Prelude.{◌≡◌, ◌++◌, ◌∷◌, [], IfErr, IfOk, OnOk};
 ghost use Rattle.nl_types.specs.declared.error.VolError;
-ghost use Rattle.nl_types.specs.Paths.{Name};
+ghost use Rattle.nl_types.specs.Plain.Paths.{Name};
 ghost use Rattle.nl_dirs.specs.declared.record.Record.{Record};
 ghost use Rattle.nl_dirs.specs.Records.{NamesAscend, entry_of};
 ghost use Rattle.nl_tree.specs.Records.{HasNamePlace, NamesAreOrdered, record_named, records_of, with_record, without_record};

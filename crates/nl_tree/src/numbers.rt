@@ -2,7 +2,7 @@
 ghost use Rattle.std.specs.Prelude.{◌≡◌, ◌≢◌, ◌==◌, ◌+◌, ◌≤◌, ◌<◌, ℕ, true, cond, nat_le, if◌then◌else◌, Some, None, IsSome, MatchOption, IfErr, OnOk};
 ghost use Rattle.std.specs.BTreeMap as map;
 ghost use Rattle.std.specs.Ordering.{nat_cmp};
-ghost use Rattle.nl_types.specs.Limits as limits;
+ghost use Rattle.nl_types.specs.Plain.Limits as limits;
 ghost use Rattle.nl_types.specs.declared.error.VolError;
 ghost use Rattle.nl_types.specs.Inodes.{AreInUseFrom, IsLowestFreeInode};
 ghost use Rattle.nl_tree.specs.Held.{Holding};
@@ -12,14 +12,12 @@ ghost use Rattle.nl_tree.specs.Overlays.{IsOrderly, current_of, holding_now};
 
 use crate::overlay::Overlay;
 use crate::tree_read::Base;
-use nl_types::VolError;
-
-/// The most paths beside the root.
-const PATH_LIMIT: u64 = 524_277;
+use nl_types::limits::PATH_LIMIT;
+use nl_types::{InodeNumber, VolError};
 
 impl Overlay {
     /// The lowest number that is free and is to be given first.
-    fn first_freed(&self) -> Option<u64>
+    fn first_freed(&self) -> Option<InodeNumber>
         ensures { MatchOption result ((n : ℕ) → IsNumberFreed self.now n → ⊥)
             (λ n. IsNumberFreed self.now n × ((m : ℕ) → IsNumberFreed self.now m → n ≤ m)) }
     {
@@ -32,27 +30,27 @@ impl Overlay {
     }
 
     /// The lowest free number of an ordinary inode. It takes no memory.
-    pub(crate) fn free_number<B: Base>(&self, base: &B) -> Option<u64>
+    pub(crate) fn free_number<B: Base>(&self, base: &B) -> Option<InodeNumber>
         ensures { (b : Holding) → B.TreeRead.holds base.now b → CountsFreeNow self.now b
             → MatchOption result (AreInUseFrom (holding_now self.now b) limits.first_inode limits.inode_limit)
             (IsLowestFreeInode (holding_now self.now b) limits.first_inode) }
     {
         let first = self.first_freed();
         match first {
-            Some(freed) if freed < self.mark => Some(freed),
+            Some(freed) if freed < self.mark => first,
             _ => lesser(first, base.free_from(self.mark)),
         }
     }
 
     /// The number of an inode that is to be new, or none where there is a name too many or no number is free.
     /// It takes no memory.
-    pub(crate) fn number_for_new<B: Base>(&self, base: &B) -> Option<u64>
+    pub(crate) fn number_for_new<B: Base>(&self, base: &B) -> Option<InodeNumber>
         ensures number { (b : Holding) → B.TreeRead.holds base.now b → CountsFreeNow self.now b
             → MatchOption result (IsFullOf self.now.names (holding_now self.now b))
             (IsLowestFreeInode (holding_now self.now b) limits.first_inode) }
         ensures limit { IsSome result → self.now.names < limits.path_limit }
     {
-        if self.names < PATH_LIMIT {
+        if self.names < PATH_LIMIT as u64 {
             self.free_number(base)
         } else {
             None
@@ -60,7 +58,7 @@ impl Overlay {
     }
 
     /// Makes a number one in use: it isn't given again, and the search for others begins behind it.
-    pub(crate) fn take_number(&mut self, inode: u64)
+    pub(crate) fn take_number(&mut self, inode: InodeNumber)
         requires { inode < limits.inode_limit }
         ensures orderly { IsOrderly self.old → IsOrderly self.new }
         ensures freed { (n : ℕ) → map.get nat_cmp self.new.freed n ≡
@@ -71,13 +69,13 @@ impl Overlay {
     {
         self.freed.remove(&inode);
         if self.mark <= inode {
-            self.mark = inode + 1;
+            self.mark = InodeNumber::new(inode.get() + 1);
         }
     }
 
     /// Keeps a place for a number that is to be free. Nothing that shows changes.
     #[tactic(auto, using(crate::proofs::Shown::hidden))]
-    pub(crate) fn reserve_number(&mut self, inode: u64) -> Result<(), VolError>
+    pub(crate) fn reserve_number(&mut self, inode: InodeNumber) -> Result<(), VolError>
         ensures orderly { IsOrderly self.old → IsOrderly self.new }
         ensures same { current_of self.new ≡ current_of self.old }
         ensures changed { self.new.changed ≡ self.old.changed }
@@ -95,7 +93,7 @@ impl Overlay {
     }
 
     /// Makes a number one that is to be given first.
-    pub(crate) fn give_back(&mut self, inode: u64)
+    pub(crate) fn give_back(&mut self, inode: InodeNumber)
         requires { IsSome (map.get nat_cmp self.old.freed inode) }
         ensures orderly { IsOrderly self.old → IsOrderly self.new }
         ensures freed { (n : ℕ) → map.get nat_cmp self.new.freed n ≡
@@ -111,7 +109,7 @@ impl Overlay {
 }
 
 /// The lesser of the numbers that are there.
-fn lesser(number: Option<u64>, other: Option<u64>) -> Option<u64>
+fn lesser(number: Option<InodeNumber>, other: Option<InodeNumber>) -> Option<InodeNumber>
     ensures { result ≡ lesser_option number other }
 {
     match (number, other) {

@@ -2,7 +2,7 @@
 ghost use Rattle.std.specs.Prelude.{◌≡◌, ◌≢◌, ℕ, [], List, Some, false, IfErr, IfOk, OnOk};
 ghost use Rattle.std.specs.BTreeMap as map;
 ghost use Rattle.std.specs.Ordering.{nat_cmp};
-ghost use Rattle.nl_types.specs.Limits as limits;
+ghost use Rattle.nl_types.specs.Plain.Limits as limits;
 ghost use Rattle.nl_types.specs.declared.error.VolError;
 ghost use Rattle.nl_dirs.specs.declared.record.Record.{Record};
 ghost use Rattle.nl_tree.specs.Held.{Holding, IsInodeNumber, held_record};
@@ -11,8 +11,9 @@ ghost use Rattle.nl_tree.specs.Overlays.{HasListing, HasOrderedPages, HasSlot, I
 ghost use Rattle.nl_tree.specs.Steps.{with_held};
 
 use crate::listing::Listing;
-use crate::tree_read::{Base, Link, ROOT_INODE};
-use nl_types::{Page, VolError};
+use crate::tree_read::{Base, Link};
+use nl_types::limits::{FIRST_INODE, ROOT_INODE};
+use nl_types::{InodeNumber, Page, VolError};
 use std::alloc::Global;
 use std::collections::BTreeMap;
 
@@ -48,11 +49,11 @@ pub struct Slot {
 #[derive(Drop)]
 pub struct Overlay {
     /// By inode.
-    pub changed: BTreeMap<u64, Slot>,
+    pub changed: BTreeMap<InodeNumber, Slot>,
     /// True at the free numbers that are to be given first.
-    pub freed: BTreeMap<u64, bool>,
+    pub freed: BTreeMap<InodeNumber, bool>,
     /// Below it all numbers are in use, but for those in `freed`.
-    pub mark: u64,
+    pub mark: InodeNumber,
     /// How many paths there are beside the root.
     pub names: u64,
 }
@@ -66,7 +67,7 @@ impl Overlay {
         let overlay = Overlay {
             changed: BTreeMap::new(alloc),
             freed: BTreeMap::new(alloc),
-            mark: 11,
+            mark: InodeNumber::new(FIRST_INODE),
             names,
         };
         overlay.ordered();
@@ -85,11 +86,11 @@ impl Overlay {
             live: true,
             what: Changed::Dir(Listing::new(alloc)),
         };
-        changed.insert(ROOT_INODE, root)?;
+        changed.insert(InodeNumber::new(ROOT_INODE), root)?;
         let overlay = Overlay {
             changed,
             freed: BTreeMap::new(alloc),
-            mark: 11,
+            mark: InodeNumber::new(FIRST_INODE),
             names: 0,
         };
         overlay.ordered();
@@ -106,7 +107,7 @@ impl Overlay {
     }
 
     /// What a directory of the current tree has under a name. It takes no memory.
-    pub(crate) fn find<B: Base>(&self, base: &B, dir: u64, name: &[u8]) -> Option<Link>
+    pub(crate) fn find<B: Base>(&self, base: &B, dir: InodeNumber, name: &[u8]) -> Option<Link>
         ensures { (b : Holding) → B.TreeRead.holds base.now b
             → result ≡ held_record (holding_now self.now b dir) name.now }
     {
@@ -118,7 +119,7 @@ impl Overlay {
 
     /// Keeps a place for an inode. Nothing that shows changes.
     #[tactic(auto, using(crate::proofs::Shown::hidden))]
-    pub(crate) fn reserve(&mut self, inode: u64) -> Result<(), VolError>
+    pub(crate) fn reserve(&mut self, inode: InodeNumber) -> Result<(), VolError>
         ensures orderly { IsOrderly self.old → IsInodeNumber inode → IsOrderly self.new }
         ensures same { current_of self.new ≡ current_of self.old }
         ensures rest { KeepsRest self.old self.new }
@@ -138,7 +139,7 @@ impl Overlay {
     }
 
     /// Whether an inode's place shows.
-    pub(crate) fn is_live(&self, inode: u64) -> bool
+    pub(crate) fn is_live(&self, inode: InodeNumber) -> bool
         ensures { result ≡ shows_inode self.now inode }
     {
         match self.changed.get(&inode) {
@@ -149,7 +150,7 @@ impl Overlay {
 
     /// Puts something into an inode's place, where nothing shows.
     #[tactic(auto, using(crate::proofs::Shown::hidden))]
-    pub(crate) fn hide(&mut self, inode: u64, what: Changed) -> Result<(), VolError>
+    pub(crate) fn hide(&mut self, inode: InodeNumber, what: Changed) -> Result<(), VolError>
         requires { shows_inode self.old inode ≡ false }
         ensures orderly { IsOrderly self.old → IsInodeNumber inode → HasOrderedPages what
             → IsOrderly self.new }
@@ -172,7 +173,7 @@ impl Overlay {
         &mut self,
         alloc: Global,
         base: &B,
-        dir: u64,
+        dir: InodeNumber,
     ) -> Result<(), VolError>
         requires { (b : Holding) × (all : List Record) × B.TreeRead.holds base.now b
             × IsDirectoryOf (holding_now self.old b) dir all }
@@ -196,7 +197,7 @@ impl Overlay {
     }
 
     /// Puts something into an inode's place, which shows from now on.
-    pub(crate) fn show(&mut self, inode: u64, what: Changed)
+    pub(crate) fn show(&mut self, inode: InodeNumber, what: Changed)
         requires { HasSlot self.old inode }
         ensures orderly { IsOrderly self.old → HasOrderedPages what → IsOrderly self.new }
         ensures shown { (b : Holding) (i : ℕ) → holding_now self.new b i ≡

@@ -1,12 +1,12 @@
 //! The pages that a write makes.
 ghost use Rattle.std.specs.Prelude.{◌≡◌, ℕ, ◌+◌, ◌*◌, ◌/◌, ◌<◌, ◌≤◌, IfOk, length, option_copied, slice_index};
-ghost use Rattle.nl_types.specs.Limits as limits;
+ghost use Rattle.nl_types.specs.Plain.Limits as limits;
 ghost use Rattle.nl_tree.specs.Contents.{byte_in};
 ghost use Rattle.nl_tree.specs.Held.{Holding, held_block};
 ghost use Rattle.nl_tree.specs.Bytes.{ArePagesCut, ArePagesWritten, IsPageCut, IsPageWritten, end_of_blocks};
 
 use crate::tree_read::TreeRead;
-use nl_types::{BLOCK_SIZE, Block, Page};
+use nl_types::{BLOCK_SIZE, Block, InodeNumber, Page};
 use std::alloc::{AllocError, Global};
 
 const SIZE: u64 = BLOCK_SIZE as u64;
@@ -61,7 +61,7 @@ fn written_page(
 fn page_with<T: TreeRead>(
     alloc: Global,
     tree: &T,
-    file: u64,
+    file: InodeNumber,
     index: u64,
     offset: u64,
     bytes: &[u8],
@@ -83,7 +83,7 @@ fn page_with<T: TreeRead>(
 pub(crate) fn written_pages<T: TreeRead>(
     alloc: Global,
     tree: &T,
-    file: u64,
+    file: InodeNumber,
     offset: u64,
     bytes: &[u8],
 ) -> Result<Vec<Page>, AllocError>
@@ -110,7 +110,7 @@ pub(crate) fn written_pages<T: TreeRead>(
 pub(crate) fn cut_pages<T: TreeRead>(
     alloc: Global,
     tree: &T,
-    file: u64,
+    file: InodeNumber,
     size: u64,
 ) -> Result<Vec<Page>, AllocError>
     requires { size ≤ limits.file_limit }

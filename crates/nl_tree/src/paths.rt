@@ -1,8 +1,8 @@
 //! Paths as calls give them, and where they lead.
 ghost use Rattle.std.specs.Prelude.{◌≡◌, ◌==◌, ◌&&◌, ◌∷◌, [], not, Ok, Err, MatchOption, MatchResult};
 ghost use Rattle.std.specs.List.{list_all};
-ghost use Rattle.nl_types.specs.Paths.{is_name, path_of};
-ghost use Rattle.nl_types.specs.Calls.{and_then, is_above};
+ghost use Rattle.nl_types.specs.Plain.Paths.{is_name, path_of};
+ghost use Rattle.nl_types.specs.Plain.Calls.{and_then, is_above};
 ghost use Rattle.nl_types.specs.declared.kind.Kind.TheVariants as kind;
 ghost use Rattle.nl_types.specs.Resolving.{resolve_from, step_to};
 ghost use Rattle.nl_tree.specs.Held.{Holding, inodes_of_holding};
@@ -10,11 +10,9 @@ ghost use Rattle.nl_tree.specs.Private.PathParts.{DividesAtSlash, IsOnePart, IsP
 ghost use Rattle.nl_tree.specs.Naming.{IsPlaceOf, IsPlaceRefused};
 ghost use Rattle.nl_tree.specs.Reading.{as_directory, as_file, link_at};
 
-use crate::tree_read::{Link, ROOT_INODE, TreeRead};
+use crate::tree_read::{Link, TreeRead};
+use nl_types::limits::{PATH_LENGTH_LIMIT, ROOT_INODE};
 use nl_types::{InodeNumber, Kind, VolError, is_name};
-
-/// The most bytes of a path behind its first slash.
-const MAX_BEHIND: usize = 4_094;
 
 /// Where the first part ends, if others follow it.
 fn part_end(parts: &[u8]) -> Option<usize>
@@ -61,7 +59,7 @@ pub(crate) fn names_behind(path: &[u8]) -> Result<&[u8], VolError>
         (λ e. path_of path.now ≡ Err e) }
 {
     match path {
-        [b'/', parts @ ..] if parts.len() <= MAX_BEHIND => {
+        [b'/', parts @ ..] if parts.len() < PATH_LENGTH_LIMIT => {
             if parts.is_empty() || are_names(parts) {
                 Ok(parts)
             } else {
@@ -80,7 +78,7 @@ fn step<T: TreeRead>(tree: &T, at: Link, name: &[u8]) -> Result<Link, VolError>
     let (inode, kind) = at;
     match kind {
         Kind::File => Err(VolError::NotDir),
-        Kind::Directory => tree.find(inode.get(), name).ok_or(VolError::NotFound),
+        Kind::Directory => tree.find(inode, name).ok_or(VolError::NotFound),
     }
 }
 
@@ -144,20 +142,24 @@ pub(crate) fn find_directory<T: TreeRead>(tree: &T, path: &[u8]) -> Result<Inode
 /// A name in a directory, and what the directory has under it.
 #[derive(Clone, Copy)]
 pub(crate) struct Place<'p> {
-    pub(crate) directory: u64,
+    pub(crate) directory: InodeNumber,
     pub(crate) name: &'p [u8],
     pub(crate) link: Option<Link>,
 }
 
 /// One step of a walk, to a directory.
-fn step_into<T: TreeRead>(tree: &T, directory: u64, name: &[u8]) -> Result<u64, VolError>
+fn step_into<T: TreeRead>(
+    tree: &T,
+    directory: InodeNumber,
+    name: &[u8],
+) -> Result<InodeNumber, VolError>
     ensures { (held : Holding) → T.holds tree.now held
         → result ≡ and_then (step_to (inodes_of_holding held) (directory, kind.Directory) name.now)
         as_directory }
 {
-    let at = (InodeNumber::new(directory), Kind::Directory);
+    let at = (directory, Kind::Directory);
     match step(tree, at, name)? {
-        (inode, Kind::Directory) => Ok(inode.get()),
+        (inode, Kind::Directory) => Ok(inode),
         (_, Kind::File) => Err(VolError::NotDir),
     }
 }
@@ -170,7 +172,7 @@ pub(crate) fn find_place<'p, T: TreeRead>(tree: &T, names: &'p [u8]) -> Result<P
         (λ place. IsPlaceOf held (parts_of names.now) place.directory place.name.now place.link)
         (IsPlaceRefused held (parts_of names.now)) }
 {
-    let mut directory = ROOT_INODE;
+    let mut directory = InodeNumber::new(ROOT_INODE);
     let mut rest = names;
     while let Some((name, behind)) = split_part(rest) {
         directory = step_into(tree, directory, name)?;

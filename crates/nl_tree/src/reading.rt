@@ -1,9 +1,9 @@
 //! Calls that read a tree.
 ghost use Rattle.std.specs.Prelude.{◌≡◌, ◌+◌, ◌<◌, ◌≤◌, ◌^◌, List, Some, Ok, IfErr, IfOk, OnErr, length, map, take, drop};
 ghost use Rattle.nl_types.specs.declared.error.VolError;
-ghost use Rattle.nl_types.specs.Paths.{path_of};
-ghost use Rattle.nl_types.specs.Trees.{Tree};
-ghost use Rattle.nl_types.specs.Calls.{IsReadReply, IsUnlessMemory, ShowsUnlessMemory, and_then, list, read, reply_to, stat};
+ghost use Rattle.nl_types.specs.Plain.Paths.{path_of};
+ghost use Rattle.nl_types.specs.Plain.Trees.{Tree};
+ghost use Rattle.nl_types.specs.Plain.Calls.{IsReadReply, IsUnlessMemory, ShowsUnlessMemory, and_then, list, read, reply_to, stat};
 ghost use Rattle.nl_dirs.specs.declared.record.Record.{Record};
 ghost use Rattle.nl_tree.specs.Held.{Holding, Listed};
 ghost use Rattle.nl_tree.specs.Reading.{ArePartOf, HoldingMeans, ShowsAs, named_of};
@@ -28,9 +28,9 @@ pub fn read_file_into<T: TreeRead>(
     ensures end { offset + result < 2 ^ 64 }
     ensures rest { drop result into.new ≡ drop result into.old }
 {
-    let left = tree.size(file.get()).saturating_sub(offset);
+    let left = tree.size(file).saturating_sub(offset);
     let count = into.len().min(left as usize);
-    tree.read_bytes(file.get(), offset, &mut into[..count]);
+    tree.read_bytes(file, offset, &mut into[..count]);
     count
 }
 
@@ -68,8 +68,8 @@ pub fn stat<T: TreeRead>(tree: &T, path: &[u8]) -> Result<Stat, VolError>
 {
     let (inode, kind) = find_path(tree, path)?;
     Ok(match kind {
-        Kind::File => Stat::File(tree.size(inode.get())),
-        Kind::Directory => Stat::Dir(tree.name_count(inode.get())),
+        Kind::File => Stat::File(tree.size(inode)),
+        Kind::Directory => Stat::Dir(tree.name_count(inode)),
     })
 }
 
@@ -85,7 +85,7 @@ fn zeros(alloc: Global, count: usize) -> Result<Vec<u8>, VolError>
 fn file_bytes<T: TreeRead>(
     alloc: Global,
     tree: &T,
-    file: u64,
+    file: InodeNumber,
     offset: u64,
     len: u64,
 ) -> Result<Items<u8>, VolError>
@@ -114,7 +114,7 @@ pub fn read<T: TreeRead>(
         (and_then (path_of path.now) (read shown offset len)) }
 {
     let file = find_file(tree, path)?;
-    file_bytes(alloc, tree, file.get(), offset, len)
+    file_bytes(alloc, tree, file, offset, len)
 }
 
 /// The bytes of a file, as an answer. Refused as `read` is.
@@ -145,7 +145,7 @@ fn named(alloc: Global, records: Vec<Record>) -> Result<Items<Named>, VolError>
 fn listed_names<T: TreeRead>(
     alloc: Global,
     tree: &T,
-    directory: u64,
+    directory: InodeNumber,
 ) -> Result<Items<Named>, VolError>
     ensures names { (held : Holding) (records : List Record) → T.holds tree.now held
         → held directory ≡ Some (Listed records)
@@ -165,7 +165,7 @@ pub fn list<T: TreeRead>(alloc: Global, tree: &T, path: &[u8]) -> Result<Items<N
         → ShowsUnlessMemory (λ names. names) result (and_then (path_of path.now) (list shown)) }
 {
     let directory = find_directory(tree, path)?;
-    listed_names(alloc, tree, directory.get())
+    listed_names(alloc, tree, directory)
 }
 
 /// The names in a directory, as an answer. Refused as `list` is.

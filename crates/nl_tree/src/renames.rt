@@ -1,6 +1,6 @@
 //! Records that get another name or directory.
 ghost use Rattle.std.specs.Prelude.{◌≡◌, ◌+◌, ◌≤◌, ℕ, List, None, IfErr, OnErr, OnOk};
-ghost use Rattle.nl_types.specs.Limits as limits;
+ghost use Rattle.nl_types.specs.Plain.Limits as limits;
 ghost use Rattle.nl_types.specs.declared.error.VolError;
 ghost use Rattle.nl_dirs.specs.declared.record.Record.{Record};
 ghost use Rattle.nl_tree.specs.Held.{Holding, IsInodeNumber};
@@ -12,13 +12,13 @@ ghost use Rattle.nl_tree.specs.Steps.{with_held};
 use crate::overlay::Overlay;
 use crate::paths::Place;
 use crate::tree_read::{Base, Link};
-use nl_types::VolError;
+use nl_types::{InodeNumber, VolError};
 use std::alloc::Global;
 
 /// A record that is to be moved, and the place where it goes.
 #[derive(Clone, Copy)]
-pub(crate) struct Move<'p> {
-    pub(crate) directory: u64,
+pub(crate) struct PlannedRename<'p> {
+    pub(crate) directory: InodeNumber,
     pub(crate) name: &'p [u8],
     pub(crate) link: Link,
     pub(crate) target: Place<'p>,
@@ -32,7 +32,7 @@ impl Overlay {
         &mut self,
         alloc: Global,
         base: &B,
-        found: &Move,
+        found: &PlannedRename,
     ) -> Result<(), VolError>
         requires { (b : Holding) × (all others : List Record) × B.TreeRead.holds base.now b
             × AreDirectoriesOf found.now (holding_now self.old b) all others }
@@ -62,8 +62,8 @@ impl Overlay {
         &mut self,
         alloc: Global,
         base: &B,
-        found: &Move,
-        target: u64,
+        found: &PlannedRename,
+        target: InodeNumber,
     ) -> Result<(), VolError>
         requires directories { (b : Holding) × (all others : List Record) × B.TreeRead.holds base.now b
             × AreDirectoriesOf found.now (holding_now self.old b) all others }
@@ -95,7 +95,7 @@ impl Overlay {
         &mut self,
         alloc: Global,
         base: &B,
-        found: &Move,
+        found: &PlannedRename,
     ) -> Result<(), VolError>
         requires { (b : Holding) × (all others : List Record) × B.TreeRead.holds base.now b
             × AreDirectoriesOf found.now (holding_now self.old b) all others }
@@ -117,7 +117,7 @@ impl Overlay {
     }
 
     /// Moves a record, where both names have places.
-    fn move_link(&mut self, found: &Move)
+    fn move_link(&mut self, found: &PlannedRename)
         requires { (all others : List Record) × HasNamesOf found.now self.old all others }
         ensures orderly { IsOrderly self.old → IsOrderly self.new }
         ensures shown { (all others : List Record) → HasNamesOf found.now self.old all others

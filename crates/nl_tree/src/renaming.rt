@@ -1,9 +1,9 @@
 //! Renames by paths.
 ghost use Rattle.std.specs.Prelude.{◌≡◌, ℕ, IsTrue, List, MatchOption, MatchResult, Ok, Err, OnErr, OnOk, Some};
-ghost use Rattle.nl_types.specs.Calls.{and_then, rename};
+ghost use Rattle.nl_types.specs.Plain.Calls.{and_then, rename};
 ghost use Rattle.nl_types.specs.Judging.{may_take};
-ghost use Rattle.nl_types.specs.Paths.{Path, is_name, path_of};
-ghost use Rattle.nl_types.specs.Trees.{Tree};
+ghost use Rattle.nl_types.specs.Plain.Paths.{Path, is_name, path_of};
+ghost use Rattle.nl_types.specs.Plain.Trees.{Tree};
 ghost use Rattle.nl_dirs.specs.declared.record.Record.{Record};
 ghost use Rattle.nl_tree.specs.Became.{holding_over};
 ghost use Rattle.nl_tree.specs.CurrentTrees.{AltersAs, AnswersAs, AnswersCall, CanCall, HasRenamed, StandsOver, without_replaced};
@@ -14,7 +14,7 @@ ghost use Rattle.nl_tree.specs.Private.PathParts.{parts_of};
 
 use crate::current::CurrentTree;
 use crate::paths::{Place, find_place, is_above, names_behind};
-use crate::renames::Move;
+use crate::renames::PlannedRename;
 use crate::tree_read::{Base, Link, TreeRead};
 use nl_types::{Answer, Kind, VolError};
 use std::alloc::Global;
@@ -44,7 +44,7 @@ fn may_replace<T: TreeRead>(tree: &T, kind: Kind, target: Option<Link>) -> Resul
         (Kind::File, Some((_, Kind::Directory))) => Err(VolError::IsDir),
         (Kind::Directory, Some((_, Kind::File))) => Err(VolError::NotDir),
         (Kind::Directory, Some((inode, Kind::Directory))) => {
-            if tree.name_count(inode.get()) > 0 {
+            if tree.name_count(inode) > 0 {
                 Err(VolError::NotEmpty)
             } else {
                 Ok(())
@@ -80,7 +80,7 @@ fn find_move<'p, T: TreeRead>(
     tree: &T,
     names: &'p [u8],
     target_names: &'p [u8],
-) -> Result<Option<Move<'p>>, VolError>
+) -> Result<Option<PlannedRename<'p>>, VolError>
     ensures { (held : Holding) → T.holds tree.now held → MatchResult result
         (λ found. MatchOption found (MovesNothing held (parts_of names.now) (parts_of target_names.now))
         (FindsMove held (parts_of names.now) (parts_of target_names.now)))
@@ -99,7 +99,7 @@ fn find_move<'p, T: TreeRead>(
         return Ok(None);
     }
     may_replace(tree, link.1, target.link)?;
-    Ok(Some(Move {
+    Ok(Some(PlannedRename {
         directory: place.directory,
         name: place.name,
         link,
@@ -113,7 +113,7 @@ impl CurrentTree {
         &mut self,
         alloc: Global,
         base: &B,
-        found: &Move,
+        found: &PlannedRename,
     ) -> Result<(), VolError>
         requires found { (b : Holding) × (tree : Tree) × (from to : Path) × B.TreeRead.holds base.now b
             × StandsOver self.old b tree × FindsMove (holding_over self.old.became b) from to found.now }
@@ -129,7 +129,7 @@ impl CurrentTree {
     {
         match found.target.link {
             None => self.overlay.rename(alloc, base, found),
-            Some((replaced, _)) => { self.overlay.rename_onto(alloc, base, found, replaced.get()) }
+            Some((replaced, _)) => { self.overlay.rename_onto(alloc, base, found, replaced) }
         }
     }
 

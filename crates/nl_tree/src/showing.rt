@@ -12,12 +12,12 @@ use crate::listing::Listing;
 use crate::overlay::{Changed, FileBlocks, Overlay};
 use crate::tree_read::Base;
 use nl_dirs::Record;
-use nl_types::{BLOCK_SIZE, Page, VolError};
+use nl_types::{BLOCK_SIZE, InodeNumber, Page, VolError};
 use std::alloc::Global;
 
 impl FileBlocks {
     /// The page of the file at a block index, a new one or the checkpoint's, where it is stored.
-    fn block<'a, B: Base>(&'a self, base: &'a B, file: u64, index: u64) -> Option<&'a Page>
+    fn block<'a, B: Base>(&'a self, base: &'a B, file: InodeNumber, index: u64) -> Option<&'a Page>
         ensures { (b : Holding) → B.TreeRead.holds base.now b
             → option_copied result ≡ block_over self.now (b file) index }
     {
@@ -50,7 +50,7 @@ impl FileBlocks {
     }
 
     /// Fills the slice with the bytes of the file from an offset on.
-    fn read_bytes<B: Base>(&self, base: &B, file: u64, offset: u64, into: &mut [u8])
+    fn read_bytes<B: Base>(&self, base: &B, file: InodeNumber, offset: u64, into: &mut [u8])
         requires { offset + length into.old < 2 ^ 64 }
         ensures { (b : Holding) → B.TreeRead.holds base.now b
             → AreBytesFrom (block_over self.now (b file)) offset into.new }
@@ -110,7 +110,7 @@ impl Changed {
 
 impl Overlay {
     /// The size of a file in bytes.
-    pub(crate) fn size<B: Base>(&self, base: &B, file: u64) -> u64
+    pub(crate) fn size<B: Base>(&self, base: &B, file: InodeNumber) -> u64
         ensures { (b : Holding) → B.TreeRead.holds base.now b
             → result ≡ held_size (holding_now self.now b file) }
     {
@@ -124,7 +124,7 @@ impl Overlay {
     pub(crate) fn block<'a, B: Base>(
         &'a self,
         base: &'a B,
-        file: u64,
+        file: InodeNumber,
         index: u64,
     ) -> Option<&'a Page>
         ensures { (b : Holding) → B.TreeRead.holds base.now b
@@ -140,7 +140,13 @@ impl Overlay {
     }
 
     /// Fills the slice with the bytes of a file from an offset on.
-    pub(crate) fn read_bytes<B: Base>(&self, base: &B, file: u64, offset: u64, into: &mut [u8])
+    pub(crate) fn read_bytes<B: Base>(
+        &self,
+        base: &B,
+        file: InodeNumber,
+        offset: u64,
+        into: &mut [u8],
+    )
         requires { offset + length into.old < 2 ^ 64 }
         ensures { (b : Holding) → B.TreeRead.holds base.now b
             → AreBytesFrom (held_block (holding_now self.now b file)) offset into.new }
@@ -155,7 +161,7 @@ impl Overlay {
     }
 
     /// How many names a directory has.
-    pub(crate) fn name_count<B: Base>(&self, base: &B, dir: u64) -> u64
+    pub(crate) fn name_count<B: Base>(&self, base: &B, dir: InodeNumber) -> u64
         ensures { (b : Holding) → B.TreeRead.holds base.now b
             → held_count (holding_now self.now b dir) < 2 ^ 64
             → result ≡ held_count (holding_now self.now b dir) }
@@ -171,7 +177,7 @@ impl Overlay {
         &self,
         alloc: Global,
         base: &B,
-        dir: u64,
+        dir: InodeNumber,
     ) -> Result<Vec<Record>, VolError>
         ensures all { (b : Holding) (records : List Record) → B.TreeRead.holds base.now b
             → holding_now self.now b dir ≡ Some (Listed records)

@@ -7,7 +7,7 @@ use crate::current::CurrentTree;
 use crate::overlay::Overlay;
 use crate::tree_read::{Base, Link, TreeRead};
 use nl_dirs::Record;
-use nl_types::{Page, VolError};
+use nl_types::{InodeNumber, Page, VolError};
 use std::alloc::Global;
 
 /// The current tree over the latest checkpoint, to be read by paths as the checkpoint's own tree is.
@@ -38,27 +38,27 @@ impl<B: Base> TreeRead for View<'_, B> {
     ghost holds = { λ view held. IsHolding held
         × ((b : Holding) × B.TreeRead.holds view.base.now b × (held ≡ holding_now view.overlay.now b)) };
 
-    fn find(&self, dir: u64, name: &[u8]) -> Option<Link> {
+    fn find(&self, dir: InodeNumber, name: &[u8]) -> Option<Link> {
         self.overlay.find(self.base, dir, name)
     }
 
-    fn size(&self, file: u64) -> u64 {
+    fn size(&self, file: InodeNumber) -> u64 {
         self.overlay.size(self.base, file)
     }
 
-    fn block(&self, file: u64, index: u64) -> Option<&Page> {
+    fn block(&self, file: InodeNumber, index: u64) -> Option<&Page> {
         self.overlay.block(self.base, file, index)
     }
 
-    fn read_bytes(&self, file: u64, offset: u64, into: &mut [u8]) {
+    fn read_bytes(&self, file: InodeNumber, offset: u64, into: &mut [u8]) {
         self.overlay.read_bytes(self.base, file, offset, into);
     }
 
-    fn name_count(&self, dir: u64) -> u64 {
+    fn name_count(&self, dir: InodeNumber) -> u64 {
         self.overlay.name_count(self.base, dir)
     }
 
-    fn records(&self, alloc: Global, dir: u64) -> Result<Vec<Record>, VolError> {
+    fn records(&self, alloc: Global, dir: InodeNumber) -> Result<Vec<Record>, VolError> {
         self.overlay.records(alloc, self.base, dir)
     }
 }

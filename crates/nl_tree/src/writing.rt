@@ -1,9 +1,9 @@
 //! Calls that change the bytes of a file.
 ghost use Rattle.std.specs.Prelude.{◌≡◌, ◌+◌, ◌<◌, ◌≤◌, ℕ, length, IfErr, OnErr, OnOk};
-ghost use Rattle.nl_types.specs.Limits as limits;
-ghost use Rattle.nl_types.specs.Calls.{and_then, truncate, write};
-ghost use Rattle.nl_types.specs.Paths.{path_of};
-ghost use Rattle.nl_types.specs.Roots.{Blocks};
+ghost use Rattle.nl_types.specs.Plain.Limits as limits;
+ghost use Rattle.nl_types.specs.Plain.Calls.{and_then, truncate, write};
+ghost use Rattle.nl_types.specs.Plain.Paths.{path_of};
+ghost use Rattle.nl_types.specs.Blocks.Roots.{Blocks};
 ghost use Rattle.nl_types.specs.declared.error.VolError;
 ghost use Rattle.nl_tree.specs.Became.{holding_over};
 ghost use Rattle.nl_tree.specs.Bytes.{IsFileIn, IsFileResized, IsFileWritten};
@@ -15,11 +15,9 @@ use crate::current::CurrentTree;
 use crate::page_writing::{cut_pages, written_pages};
 use crate::paths::find_file;
 use crate::tree_read::{Base, TreeRead};
-use nl_types::{Answer, BLOCK_SIZE, VolError};
+use nl_types::limits::FILE_LIMIT;
+use nl_types::{Answer, BLOCK_SIZE, InodeNumber, VolError};
 use std::alloc::Global;
-
-/// The most bytes of a file.
-const SIZE_LIMIT: u64 = 67_108_864;
 
 impl CurrentTree {
     /// Writes bytes over those of a file from an offset on. Refused by `Memory` alone; then the tree is as
@@ -28,7 +26,7 @@ impl CurrentTree {
         &mut self,
         alloc: Global,
         base: &B,
-        file: u64,
+        file: InodeNumber,
         offset: u64,
         bytes: &[u8],
     ) -> Result<(), VolError>
@@ -58,7 +56,7 @@ impl CurrentTree {
         &mut self,
         alloc: Global,
         base: &B,
-        file: u64,
+        file: InodeNumber,
         size: u64,
     ) -> Result<(), VolError>
         requires file { (b : Holding) × (was : ℕ) × (blocks : Blocks) × B.TreeRead.holds base.now b
@@ -101,12 +99,12 @@ impl CurrentTree {
             (HasOverwrittenAny path.now offset bytes.now) }
         ensures same { OnErr result (self.new ≡ self.old) }
     {
-        let file = find_file(&self.view(base), path)?.get();
+        let file = find_file(&self.view(base), path)?;
         let count = bytes.len() as u64;
         if count == 0 {
             return Ok(0);
         }
-        if count > SIZE_LIMIT.saturating_sub(offset) {
+        if count > FILE_LIMIT.saturating_sub(offset) {
             return Err(VolError::TooBig);
         }
         self.write_file(alloc, base, file, offset, bytes)?;
@@ -133,8 +131,8 @@ impl CurrentTree {
             (HasTruncated path.now size) }
         ensures same { OnErr result (self.new ≡ self.old) }
     {
-        let file = find_file(&self.view(base), path)?.get();
-        if size > SIZE_LIMIT {
+        let file = find_file(&self.view(base), path)?;
+        if size > FILE_LIMIT {
             return Err(VolError::TooBig);
         }
         self.truncate_file(alloc, base, file, size)

@@ -148,11 +148,11 @@ pub(crate) fn look_at_shared<D: Device, J: Volumes, R: Wait>(
     look.add_sustat(shared.sustat(rt));
     for number in 0..=u32::MAX {
         let segment = Segment::new(number);
-        let Ok(info) = shared.suinfo(rt, segment) else {
+        let Ok(view) = shared.segment(rt, segment) else {
             return look.get();
         };
-        look.add_segment(info);
-        look.add_needed(shared.needed(rt, segment));
+        look.add_segment(view.info);
+        look.add_needed(Ok(view.needed));
     }
     look.get()
 }

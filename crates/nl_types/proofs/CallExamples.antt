@@ -8,9 +8,9 @@ use Rattle.nl_types.specs.declared.reply.Answer.{Answer}
 use Rattle.nl_types.specs.declared.reply.Answer.TheVariants as answer
 use Rattle.nl_types.specs.declared.reply.Node.TheVariants.{File}
 use Rattle.nl_types.specs.declared.reply.Stat.TheVariants as status
-use Rattle.nl_types.specs.Paths.{Path, path_of}
-use Rattle.nl_types.specs.Trees.{Tree, root_alone}
-use Rattle.nl_types.specs.Calls.{Changed, and_then, tree_after, create, mkdir, write, overwritten, truncate, unlink, rmdir, rename, read, list, stat, named}
+use Rattle.nl_types.specs.Plain.Paths.{Path, path_of}
+use Rattle.nl_types.specs.Plain.Trees.{Tree, root_alone}
+use Rattle.nl_types.specs.Plain.Calls.{Changed, and_then, tree_after, create, mkdir, write, overwritten, truncate, unlink, rmdir, rename, read, list, stat, named}
 use Rattle.nl_types.specs.Facts.FileSizes.{written_sizes}
 
 -- ---- calls on the paths that bytes spell

@@ -12,11 +12,11 @@ use Rattle.nl_types.specs.declared.event.Event.TheVariants as event
 use Rattle.nl_types.specs.declared.event.Mode.{Mode}
 use Rattle.nl_types.specs.declared.reply.Answer.TheVariants as answer
 use Rattle.nl_types.specs.declared.row.Range.{Range}
-use Rattle.nl_types.specs.NumberLists.{is_one_of, NoneTwice}
-use Rattle.nl_types.specs.Rows.{kept_row, removal, range_removal}
-use Rattle.nl_types.specs.Worlds.{World, Copy, Reply, Outcome, copy_at, latest, rows, moded, copies_without, is_given_up, is_mounted, take_out, either, change_mode, remove, remove_range, mounted, unmount, step}
-use Rattle.nl_types.specs.Runs.{Run}
-use Rattle.nl_types.specs.CheckpointLaws.{where_passes, is_removable, ModesAreSet, RemovalsTakeOne, RangesTakeRemovable, RangesAnswerRemovable, RangesAreRemovals, UnmountsTakeOne}
+use Rattle.nl_types.specs.Plain.NumberLists.{is_one_of, NoneTwice}
+use Rattle.nl_types.specs.Plain.Rows.{kept_row, removal, range_removal}
+use Rattle.nl_types.specs.Plain.Worlds.{World, Copy, Reply, Outcome, copy_at, latest, rows, moded, copies_without, is_given_up, is_mounted, take_out, either, change_mode, remove, remove_range, mounted, unmount, step}
+use Rattle.nl_types.specs.Plain.Runs.{Run}
+use Rattle.nl_types.specs.Plain.CheckpointLaws.{where_passes, is_removable, ModesAreSet, RemovalsTakeOne, RangesTakeRemovable, RangesAnswerRemovable, RangesAreRemovals, UnmountsTakeOne}
 use Rattle.nl_types.specs.Facts.Booleans.{not_true, or_right}
 use Rattle.nl_types.specs.Facts.NumberedParts.{find-kept, find-valued, is_one_of-find, find_below, is_sorted-filter}
 use Rattle.nl_types.specs.Facts.ToldCopies.{IsTold, kept_row-told, may_go-removal, range_of, range_removal-is}

@@ -9,9 +9,9 @@ use Rattle.nl_types.specs.declared.event.Event.{Event}
 use Rattle.nl_types.specs.declared.event.Event.TheVariants as event
 use Rattle.nl_types.specs.declared.event.Mode.{Mode}
 use Rattle.nl_types.specs.declared.reply.Answer.TheVariants as answer
-use Rattle.nl_types.specs.NumberLists.{is_one_of}
-use Rattle.nl_types.specs.Worlds.{World, Copy, Reply, Outcome, copy_at, expiry_of, latest, minor_copies, moded, take_out}
-use Rattle.nl_types.specs.Laws.{TakesOut, ChangesMode, GivesBack, CopiesStay, ModesStay, CopiesAreKept, MountsStay, MountNumbersAreNew, GivenNeverFalls}
+use Rattle.nl_types.specs.Plain.NumberLists.{is_one_of}
+use Rattle.nl_types.specs.Plain.Worlds.{World, Copy, Reply, Outcome, copy_at, expiry_of, latest, minor_copies, moded, take_out}
+use Rattle.nl_types.specs.Plain.Laws.{TakesOut, ChangesMode, GivesBack, CopiesStay, ModesStay, CopiesAreKept, MountsStay, MountNumbersAreNew, GivenNeverFalls}
 use Rattle.nl_types.specs.Facts.ChangeLaws.{IsNoMount, change_gives_no_mount}
 use Rattle.nl_types.specs.Facts.NumberedLists.{find_stays}
 use Rattle.nl_types.specs.Facts.NumberedParts.{find-kept, find-valued}

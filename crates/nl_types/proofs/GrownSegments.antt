@@ -3,8 +3,8 @@ use Rattle.std.proofs.Common.{◌≡◌, ℕ, zero, suc, ◌+◌, ◌-◌, Bool,
 use Rattle.std.specs.List.{AllByRecursion, range_with_len}
 use Rattle.nl_types.specs.declared.segment.Position.{Position}
 use Rattle.nl_types.specs.declared.segment.SegmentInfo.{SegmentInfo}
-use Rattle.nl_types.specs.Segments.{IsTidy, active_from, clean_from, clean_info, info_of, is_active, is_clean}
-use Rattle.nl_types.specs.GrowingLaws.{ActiveStays, CleanGrow, InfosStay, TidyStays, UsedStays}
+use Rattle.nl_types.specs.Blocks.Segments.{IsTidy, active_from, clean_from, clean_info, info_of, is_active, is_clean}
+use Rattle.nl_types.specs.Blocks.GrowingLaws.{ActiveStays, CleanGrow, InfosStay, TidyStays, UsedStays}
 
 -- ---- clean segments behind others
 

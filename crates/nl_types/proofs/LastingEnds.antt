@@ -2,10 +2,10 @@
 use Rattle.std.proofs.Common.{◌≡◌, ℕ, ◌+◌, ◌≤◌, ◌<◌, List, [], ◌∷◌, Some, None, inl, inr, sym, refl, ap, ◌∙◌, arith}
 use Rattle.std.specs.Prelude.{◌⊎◌}
 use Rattle.std.proofs.lemmas.Bool.{cases_Bool}
-use Rattle.nl_types.specs.NumberLists.{is_one_of}
-use Rattle.nl_types.specs.Entries.{Entry, birth_of}
+use Rattle.nl_types.specs.Plain.NumberLists.{is_one_of}
+use Rattle.nl_types.specs.Blocks.Entries.{Entry, birth_of}
 use Rattle.nl_types.specs.Facts.WrittenEntries.{written-at}
-use Rattle.nl_types.specs.Lifetimes.{Ledger, LedgerEvent, IsLedger, EndsOnceSince, EndsSince, Makes, Forgets, Frees, numbers_at, Allowed, EachAllowed, ledger_after, ledger_after_all}
+use Rattle.nl_types.specs.Blocks.Lifetimes.{Ledger, LedgerEvent, IsLedger, EndsOnceSince, EndsSince, Makes, Forgets, Frees, numbers_at, Allowed, EachAllowed, ledger_after, ledger_after_all}
 use Rattle.nl_types.specs.Facts.ExactLifetimes.{origin, end-Write, end-same, latest_grows, ledger_after-IsLedger}
 
 -- a number in use was in use before, from the same start, or has started since

@@ -10,11 +10,11 @@ use Rattle.std.specs.Ordering.{nat_cmp, is_lt}
 use Rattle.std.specs.FinMap.{is_sorted}
 use Rattle.std.specs.FinMap.Entries.{below_all}
 use Rattle.nl_types.specs.declared.row.Row.{Row}
-use Rattle.nl_types.specs.NumberLists.{is_one_of}
-use Rattle.nl_types.specs.Rows.{find_row, is_shown, in_direction, at_most, row_with_mode, with_mode, without}
+use Rattle.nl_types.specs.Plain.NumberLists.{is_one_of}
+use Rattle.nl_types.specs.Plain.Rows.{find_row, is_shown, in_direction, at_most, row_with_mode, with_mode, without}
 use Rattle.nl_types.specs.declared.event.Mode.{Mode}
-use Rattle.nl_types.specs.Worlds.{Copy, copy_row, rows, moded, copies_with_mode, copies_without}
-use Rattle.nl_types.specs.CheckpointLaws.{where_passes, are_numbers_rising, RowsTellOfCopies, ListingsShowSelected, ListingsAreInOrder, ListingsEndAtCount, RowsFollowRemovals, RowsFollowModes}
+use Rattle.nl_types.specs.Plain.Worlds.{Copy, copy_row, rows, moded, copies_with_mode, copies_without}
+use Rattle.nl_types.specs.Plain.CheckpointLaws.{where_passes, are_numbers_rising, RowsTellOfCopies, ListingsShowSelected, ListingsAreInOrder, ListingsEndAtCount, RowsFollowRemovals, RowsFollowModes}
 use Rattle.nl_types.specs.Facts.NumberedLists.{before-is}
 use Rattle.nl_types.specs.Facts.NumberedParts.{list_all-filter}
 use Rattle.nl_types.specs.Facts.ToldCopies.{find_row-copies}

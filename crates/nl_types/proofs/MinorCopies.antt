@@ -6,9 +6,9 @@ use Rattle.std.specs.Ordering.{nat_cmp, eq_by_cmp}
 use Rattle.std.specs.Cmp.{unsigned_tied}
 use Rattle.std.specs.FinMap.{find}
 use Rattle.nl_types.specs.declared.error.VolError.TheVariants as error
-use Rattle.nl_types.specs.Limits.{checkpoint_number_limit}
-use Rattle.nl_types.specs.Worlds.{World, Copy, IsWorld, Outcome, Reply, copy_at, latest, minor_copy, refused_if, with_minor}
-use Rattle.nl_types.specs.CheckpointLaws.{IdleMovesStay, MakesMinor, MovesMakeMinors}
+use Rattle.nl_types.specs.Plain.Limits.{checkpoint_number_limit}
+use Rattle.nl_types.specs.Plain.Worlds.{World, Copy, IsWorld, Outcome, Reply, copy_at, latest, minor_copy, refused_if, with_minor}
+use Rattle.nl_types.specs.Plain.CheckpointLaws.{IdleMovesStay, MakesMinor, MovesMakeMinors}
 use Rattle.nl_types.specs.Facts.NumberedLists.{AllBelow-top, find-push, find-push_same}
 use Rattle.nl_types.specs.Facts.EventCases.{refused_if_gives}
 

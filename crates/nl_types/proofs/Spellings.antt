@@ -8,8 +8,8 @@ use Rattle.std.proofs.lemmas.List.Splits.{join_with_byte-slice_split}
 use Rattle.std.proofs.lemmas.Slice.Eq.{bytes_eq-Decides}
 use Rattle.nl_types.specs.declared.error.VolError.{VolError}
 use Rattle.nl_types.specs.declared.error.VolError.TheVariants as error
-use Rattle.nl_types.specs.Paths.{Path, path_of, names_of, is_name, same_path}
-use Rattle.nl_types.specs.Laws.{PathsHaveOneSpelling, RenamesOfTwoPathsCount}
+use Rattle.nl_types.specs.Plain.Paths.{Path, path_of, names_of, is_name, same_path}
+use Rattle.nl_types.specs.Plain.Laws.{PathsHaveOneSpelling, RenamesOfTwoPathsCount}
 use Rattle.nl_types.specs.Facts.Booleans.{not_true}
 use Rattle.nl_types.specs.Facts.TreeLaws.{same_path-equal}
 use Rattle.nl_types.specs.Facts.Lookups.{same_path-itself}

@@ -6,10 +6,10 @@ use Rattle.nl_types.specs.declared.reply.Answer.{Answer}
 use Rattle.nl_types.specs.declared.reply.Answer.TheVariants as answer
 use Rattle.nl_types.specs.declared.kind.Kind.TheVariants as kind
 use Rattle.nl_types.specs.declared.reply.Node.{Node}
-use Rattle.nl_types.specs.Limits.{file_limit}
-use Rattle.nl_types.specs.Paths.{Name, Path}
-use Rattle.nl_types.specs.Trees.{Tree, IsTree, insert, remove, move_subtree}
-use Rattle.nl_types.specs.Calls.{Changed, and_then, file_at, create, write, overwritten, truncate, resized, unlink, rmdir, rename, list, stat}
+use Rattle.nl_types.specs.Plain.Limits.{file_limit}
+use Rattle.nl_types.specs.Plain.Paths.{Name, Path}
+use Rattle.nl_types.specs.Plain.Trees.{Tree, IsTree, insert, remove, move_subtree}
+use Rattle.nl_types.specs.Plain.Calls.{Changed, and_then, file_at, create, write, overwritten, truncate, resized, unlink, rmdir, rename, list, stat}
 use Rattle.nl_types.specs.Inodes.{Link, Inodes, MeansTree}
 use Rattle.nl_types.specs.InodeChanges.{Adds, Refills, Drops, Moves, MovesOnto}
 use Rattle.nl_types.specs.Resolving.{IsNamed, resolve}

@@ -8,8 +8,8 @@ use Rattle.std.specs.Prelude.{◌≡◌, ℕ, IsTrue, ◌==◌, ◌&&◌, false,
 use Rattle.std.specs.FinMap.{find, is_sorted}
 use Rattle.nl_types.specs.declared.reply.Node.{Node}
 use Rattle.nl_types.specs.declared.reply.Node.TheVariants.{Dir, File}
-use Rattle.nl_types.specs.Paths.{Name, Path, name_cmp, same_name, is_within}
-use Rattle.nl_types.specs.Trees.{node_kind}
+use Rattle.nl_types.specs.Plain.Paths.{Name, Path, name_cmp, same_name, is_within}
+use Rattle.nl_types.specs.Plain.Trees.{node_kind}
 use Rattle.nl_types.specs.Inodes.{Link, InodeContent, Bytes, Records, Inodes, reached}
 
 -- ---- changes of records

@@ -6,10 +6,10 @@ use Rattle.nl_types.specs.declared.reply.Node.TheVariants.{File}
 use Rattle.nl_types.specs.declared.error.VolError.TheVariants.{NotFound}
 use Rattle.nl_types.specs.declared.kind.Kind.{Kind}
 use Rattle.nl_types.specs.declared.kind.Kind.TheVariants as kind
-use Rattle.nl_types.specs.Limits.{file_limit, path_limit, root_inode, first_inode, last_inode}
-use Rattle.nl_types.specs.Paths.{Name, Path, is_name}
-use Rattle.nl_types.specs.Calls.{and_then, walk, node_at}
-use Rattle.nl_types.specs.Trees.{Tree, IsTree, root_alone, lookup, insert, remove, move_subtree, children}
+use Rattle.nl_types.specs.Plain.Limits.{file_limit, path_limit, root_inode, first_inode, last_inode}
+use Rattle.nl_types.specs.Plain.Paths.{Name, Path, is_name}
+use Rattle.nl_types.specs.Plain.Calls.{and_then, walk, node_at}
+use Rattle.nl_types.specs.Plain.Trees.{Tree, IsTree, root_alone, lookup, insert, remove, move_subtree, children}
 use Rattle.nl_types.specs.Inodes.{Link, InodeContent, Bytes, Records, Inodes, MeansTree, found_node, reached}
 use Rattle.nl_types.specs.InodeChanges.{HasRecords, ListsRecords, Creates, Rewrites, Removes, Renames, Replaces}
 use Rattle.nl_types.specs.Resolving.{resolve, record_in, as_dir, node_in}

@@ -6,10 +6,10 @@ use Rattle.std.specs.FinMap.{is_sorted}
 use Rattle.nl_types.specs.declared.kind.Kind.{Kind}
 use Rattle.nl_types.specs.declared.reply.Node.{Node}
 use Rattle.nl_types.specs.declared.reply.Node.TheVariants.{Dir, File}
-use Rattle.nl_types.specs.Limits.{last_inode, root_inode}
-use Rattle.nl_types.specs.PartialMaps.{Partial}
-use Rattle.nl_types.specs.Paths.{Name, Path, path_cmp}
-use Rattle.nl_types.specs.Trees.{Tree, lookup, node_kind}
+use Rattle.nl_types.specs.Plain.Limits.{last_inode, root_inode}
+use Rattle.nl_types.specs.Blocks.PartialMaps.{Partial}
+use Rattle.nl_types.specs.Plain.Paths.{Name, Path, path_cmp}
+use Rattle.nl_types.specs.Plain.Trees.{Tree, lookup, node_kind}
 
 -- what a record says of a name: the number of its inode, and what that is
 abbrev pub Link : Type 0

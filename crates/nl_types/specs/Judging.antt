@@ -9,9 +9,9 @@ use Rattle.nl_types.specs.declared.kind.Kind.TheVariants as kind
 use Rattle.nl_types.specs.declared.reply.Named.{Named}
 use Rattle.nl_types.specs.declared.reply.Stat.{Stat}
 use Rattle.nl_types.specs.declared.reply.Stat.TheVariants as status
-use Rattle.nl_types.specs.Limits.{path_limit}
-use Rattle.nl_types.specs.Paths.{Name, Path, same_path}
-use Rattle.nl_types.specs.Calls.{and_then, refuse_if, is_root, is_above}
+use Rattle.nl_types.specs.Plain.Limits.{path_limit}
+use Rattle.nl_types.specs.Plain.Paths.{Name, Path, same_path}
+use Rattle.nl_types.specs.Plain.Calls.{and_then, refuse_if, is_root, is_above}
 use Rattle.nl_types.specs.Inodes.{Link, InodeContent, Bytes, Records, Inodes}
 use Rattle.nl_types.specs.InodeChanges.{ListsRecords}
 use Rattle.nl_types.specs.Resolving.{record_in, resolve, as_dir}

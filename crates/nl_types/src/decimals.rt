@@ -1,7 +1,7 @@
 //! Decimal numbers in words.
 ghost use Rattle.std.specs.Prelude.{◌≡◌, SomeIff};
 ghost use Rattle.std.specs.Str.Parse.{digits_value};
-ghost use Rattle.nl_types.specs.Decimals.{IsDecimal, decimal_in};
+ghost use Rattle.nl_types.specs.Plain.Decimals.{IsDecimal, decimal_in};
 
 fn digits(word: &str) -> Option<u64>
     ensures { SomeIff result (IsDecimal word.now) (digits_value 10 word.now) }

@@ -1,11 +1,10 @@
 //! Names that may stand in paths.
 ghost use Rattle.std.specs.Prelude.{◌≡◌, ◌==◌, ◌&&◌, ◌∷◌, [], not};
 ghost use Rattle.std.specs.List.{list_any};
-ghost use Rattle.nl_types.specs.Characters.{dot};
-ghost use Rattle.nl_types.specs.Paths.{is_name, same_name};
+ghost use Rattle.nl_types.specs.Plain.Characters.{dot};
+ghost use Rattle.nl_types.specs.Plain.Paths.{is_name, same_name};
 
-/// The most bytes of a name.
-const NAME_LIMIT: usize = 255;
+use crate::limits::NAME_LIMIT;
 
 /// Whether a name is neither `.` nor `..`.
 fn is_not_dots(name: &[u8]) -> bool

@@ -1,6 +1,6 @@
 //! What is told of kept checkpoints.
 ghost use Rattle.std.specs.Prelude.{◌≡◌};
-ghost use Rattle.nl_types.specs.Rows as rows;
+ghost use Rattle.nl_types.specs.Plain.Rows as rows;
 
 use crate::error::VolError;
 use crate::event::Mode;

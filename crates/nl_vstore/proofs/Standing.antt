@@ -2,8 +2,8 @@
 use Rattle.std.proofs.Common.{◌≡◌, ℕ, zero, suc, ◌+◌, ◌≤◌, Bool, true, false, cond, eqb, List, [], ◌∷◌, length, Option, Some, None, inl, inr, sym, refl, ap, ◌∙◌, arith}
 use Rattle.std.specs.Prelude.{◌||◌}
 use Rattle.std.proofs.lemmas.Bool.{cases_Bool, cases_eq, eqb-true, eq-eqb}
-use Rattle.nl_types.specs.NumberLists.{NoneTwice, is_one_of}
-use Rattle.nl_types.specs.Entries.{Entry}
+use Rattle.nl_types.specs.Plain.NumberLists.{NoneTwice, is_one_of}
+use Rattle.nl_types.specs.Blocks.Entries.{Entry}
 use Rattle.nl_sufile.specs.BySegment.{count_to}
 use Rattle.nl_vstore.specs.Stores.{IsStore, Store, address_in, capacity, content_in, is_inside}
 use Rattle.nl_vstore.specs.Located.{needed_count, needed_in, needs}

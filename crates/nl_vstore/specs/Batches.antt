@@ -2,10 +2,10 @@
 use Rattle.std.specs.Prelude.{◌≡◌, ℕ, zero, suc, ◌+◌, ◌-◌, ◌≤◌, ◌<◌, ◌==◌, ◌||◌, Bool, true, false, List, [], ◌∷◌, ◌++◌, length, map, is_some, is_none, slice_get, Option, None, Some}
 use Rattle.std.specs.List.{list_any}
 use Rattle.std.specs.Option.{option_map_or}
-use Rattle.nl_types.specs.NumberLists.{is_one_of}
-use Rattle.nl_types.specs.Segments.{Segments}
-use Rattle.nl_types.specs.Placing.{LacksSpace}
-use Rattle.nl_types.specs.Entries.{Place, Birth, Entry, Content, number_of, GivenOnce}
+use Rattle.nl_types.specs.Plain.NumberLists.{is_one_of}
+use Rattle.nl_types.specs.Blocks.Segments.{Segments}
+use Rattle.nl_types.specs.Blocks.Placing.{LacksSpace}
+use Rattle.nl_types.specs.Blocks.Entries.{Place, Birth, Entry, Content, number_of, GivenOnce}
 use Rattle.nl_layout.specs.declared.tag.Tag.{Tag}
 
 pub record Changes : Type 0 where

@@ -1,9 +1,9 @@
 -- How many needed numbers have their pages in each segment.
 use Rattle.std.specs.Prelude.{◌≡◌, ℕ, ◌<◌, if◌then◌else◌, Bool, true, List, length, map, MatchOption, Option, None}
 use Rattle.std.specs.List.{range_with_len}
-use Rattle.nl_types.specs.NumberLists.{NoneTwice, is_one_of}
-use Rattle.nl_types.specs.PartialMaps.{Partial}
-use Rattle.nl_types.specs.Entries.{Entry}
+use Rattle.nl_types.specs.Plain.NumberLists.{NoneTwice, is_one_of}
+use Rattle.nl_types.specs.Blocks.PartialMaps.{Partial}
+use Rattle.nl_types.specs.Blocks.Entries.{Entry}
 use Rattle.nl_sufile.specs.BySegment.{count_to}
 use Rattle.nl_vstore.specs.Stores.{IsStore, Store, address_in, capacity, content_in, is_inside}
 use Rattle.nl_vstore.specs.Located.{needed_count, needed_in, needs}

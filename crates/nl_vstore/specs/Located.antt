@@ -1,10 +1,9 @@
 -- The numbers of a store by the blocks where their pages stand.
 use Rattle.std.specs.Prelude.{◌≡◌, ◌≢◌, ℕ, suc, ◌*◌, ◌≤◌, ◌==◌, if◌then◌else◌, Bool, false, List, [], ◌∷◌, length, map, slice_index_or, MatchOption, Option, None, Some}
 use Rattle.std.specs.Option.{option_map}
-use Rattle.nl_types.specs.Segments.{info_of}
-use Rattle.nl_types.specs.Placing.{blocks_from}
-use Rattle.nl_types.specs.Entries.{Content, Entry, period_of}
-use Rattle.nl_types.specs.declared.period.Period.{Period}
+use Rattle.nl_types.specs.Blocks.Segments.{info_of}
+use Rattle.nl_types.specs.Blocks.Placing.{blocks_from}
+use Rattle.nl_types.specs.Blocks.Entries.{Content, Entry}
 use Rattle.nl_vstore.specs.Stores.{Numbered, Store, address_in, content_in, payload_in}
 
 -- whether a page stands at the block
@@ -92,7 +91,3 @@ needed_in s needed segment = picked (needed_at s needed) (segment * s.segments.b
 
 abbrev pub needed_count : Store → (Entry → Bool) → ℕ → ℕ
 needed_count s needed segment = length (needed_in s needed segment)
-
--- a test of periods, as one of entries
-abbrev pub by_period : (Period → Bool) → Entry → Bool
-by_period test e = test (period_of e)

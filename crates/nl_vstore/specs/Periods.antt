@@ -1,7 +1,7 @@
 -- The period of each virtual number.
 use Rattle.std.specs.Option.{option_map}
-use Rattle.nl_types.specs.PartialMaps.{Partial}
-use Rattle.nl_types.specs.Entries.{Content, period_of}
+use Rattle.nl_types.specs.Blocks.PartialMaps.{Partial}
+use Rattle.nl_types.specs.Blocks.Entries.{Content, period_of}
 use Rattle.nl_types.specs.declared.period.Period.{Period}
 
 -- the period of each number in use

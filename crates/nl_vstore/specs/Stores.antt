@@ -4,11 +4,11 @@ use Rattle.std.specs.List.{range_with_len}
 use Rattle.std.specs.Option.{option_map}
 use Rattle.nl_types.specs.declared.error.VolError.{VolError}
 use Rattle.nl_types.specs.declared.error.VolError.TheVariants.{NoSpace, Fault, Memory}
-use Rattle.nl_types.specs.Segments.{HaveLogs, IsUsed, Segments, grown_to, total_blocks}
-use Rattle.nl_types.specs.Placing.{LacksSpace}
-use Rattle.nl_types.specs.NumberLists.{is_one_of, NoneTwice}
-use Rattle.nl_types.specs.PartialMaps.{Partial, put_each, adjust_each}
-use Rattle.nl_types.specs.Entries.{Birth, Entry, Content, number_of, written}
+use Rattle.nl_types.specs.Blocks.Segments.{HaveLogs, IsUsed, Segments, grown_to, total_blocks}
+use Rattle.nl_types.specs.Blocks.Placing.{LacksSpace}
+use Rattle.nl_types.specs.Plain.NumberLists.{is_one_of, NoneTwice}
+use Rattle.nl_types.specs.Blocks.PartialMaps.{Partial, put_each, adjust_each}
+use Rattle.nl_types.specs.Blocks.Entries.{Birth, Entry, Content, number_of, written}
 use Rattle.nl_device.specs.Failures.{Failures, failure_count}
 use Rattle.nl_layout.specs.declared.tag.Tag.{Tag}
 use Rattle.nl_sufile.specs.BySegment.{lies_in}

@@ -1,7 +1,7 @@
 -- What the logs on the device say of the blocks of a segment.
 use Rattle.std.specs.Prelude.{◌≡◌, ℕ, ◌+◌, ◌*◌, List, map, Option}
-use Rattle.nl_types.specs.Segments.{info_of}
-use Rattle.nl_types.specs.Placing.{blocks_from}
+use Rattle.nl_types.specs.Blocks.Segments.{info_of}
+use Rattle.nl_types.specs.Blocks.Placing.{blocks_from}
 use Rattle.nl_space.specs.Content.{Payload}
 use Rattle.nl_space.specs.Logs.{FillDevice, WholeLog, slots_of}
 use Rattle.nl_vstore.specs.Stores.{Store, IsStore, device_in, payload_in}

@@ -25,7 +25,7 @@ impl Model for Batch {
 }
 
 impl Batch {
-    ghost use Rattle.nl_types.specs.Entries.{Content};
+    ghost use Rattle.nl_types.specs.Blocks.Entries.{Content};
     ghost use Rattle.nl_vstore.specs.Batches.{Changes, CanBeTaken, IsLowestFree, births_of, birth_of_item, last_number, is_live, with_page};
 
     /// No change.

@@ -1,8 +1,8 @@
 //! What the layers above know of pages under virtual block numbers.
 ghost use Rattle.std.specs.Prelude.{◌≡◌, ◌+◌, ◌<◌, ◌≤◌, ◌^◌, length, max, IfOk, IfErr, OnOk, OnErr, option_copied};
-ghost use Rattle.nl_types.specs.Limits.{IsGeometry};
-ghost use Rattle.nl_types.specs.Segments.{IsClosed};
-ghost use Rattle.nl_types.specs.Roots.{Pages, pages_of};
+ghost use Rattle.nl_types.specs.Plain.Limits.{IsGeometry};
+ghost use Rattle.nl_types.specs.Blocks.Segments.{IsClosed};
+ghost use Rattle.nl_types.specs.Blocks.Roots.{Pages, pages_of};
 ghost use Rattle.nl_vstore.specs.Batches.{CanBeTaken, IsLowestFree, LacksSpaceFrom, last_number};
 ghost use Rattle.nl_vstore.specs.Periods.{Periods, periods_of};
 ghost use Rattle.nl_vstore.specs.Located.{IsNumberAt, number_at, payload_count_in};

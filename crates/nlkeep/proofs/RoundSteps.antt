@@ -7,12 +7,12 @@ use Rattle.nl_types.specs.declared.event.Event.{Event}
 use Rattle.nl_types.specs.declared.event.Event.TheVariants.{Expire, Move, Resize, Retire}
 use Rattle.nl_types.specs.declared.reply.Answer.{Answer}
 use Rattle.nl_types.specs.declared.reply.Answer.TheVariants.{Freed}
-use Rattle.nl_types.specs.CheckpointLaws.{BoundariesAreLeastProtected, ExpiriesTakeExpiring, is_expiring, is_protected_at, where_passes}
-use Rattle.nl_types.specs.Rows.{is_snapshot}
-use Rattle.nl_types.specs.Runs.{Step}
-use Rattle.nl_types.specs.Worlds.{World, Copy, IsWorld, Reply, boundary_of, copy_at, expiry_of, latest, step, take_out}
-use Rattle.nl_protect.specs.Rounds.{ends_round}
-use Rattle.nl_types.specs.Limits.{log_limit}
+use Rattle.nl_types.specs.Plain.CheckpointLaws.{BoundariesAreLeastProtected, ExpiriesTakeExpiring, is_expiring, is_protected_at, where_passes}
+use Rattle.nl_types.specs.Plain.Rows.{is_snapshot}
+use Rattle.nl_types.specs.Plain.Runs.{Step}
+use Rattle.nl_types.specs.Plain.Worlds.{World, Copy, IsWorld, Reply, boundary_of, copy_at, expiry_of, latest, step, take_out}
+use Rattle.nl_rounds.specs.Rounds.{ends_round}
+use Rattle.nl_types.specs.Plain.Limits.{log_limit}
 use Rattle.nl_vstore.specs.Located.{needed_count}
 use Rattle.nl_commit.specs.CleaningEvents.{needed_by}
 use Rattle.nl_commit.specs.CleanerViews.{cleaning_event}

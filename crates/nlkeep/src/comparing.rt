@@ -4,8 +4,8 @@ use crate::printing::{Printer, Seen};
 use crate::views::{View, shown_alone};
 use nl_folders::{Name, Path, all_differences, begins_with, find_in};
 use nl_keep_pen::checkpoint_differences;
-use nl_manifests::{HostTree, host_differences};
-use nl_types::{CheckpointNumber, Node};
+use nl_manifests::{HostDifference, HostTree, host_differences};
+use nl_types::{CheckpointNumber, Items, Node};
 use std::alloc::Global;
 use std::io::Write;
 
@@ -64,15 +64,16 @@ pub struct Pair {
     pub new: CheckpointNumber,
 }
 
-/// Tells what differs from one checkpoint to another at and below a path, as `tell_differences` does, with what
-/// is left of the paths there. It reads manifests, and no file that both have by one inode.
-pub fn tell_checkpoint_differences<W: Write>(
-    alloc: Global,
-    view: &View<'_>,
-    pair: Pair,
-    top: &[Name],
-    printer: &mut Printer<W>,
-) -> Result<usize, Fault> {
+/// What two kept checkpoints show, but for the bytes of files, and all that differs.
+#[derive(Drop)]
+struct Compared {
+    old: HostTree,
+    new: HostTree,
+    all: Items<(Path, HostDifference)>,
+}
+
+/// Compares two kept checkpoints. It reads manifests, and no file that both have by one inode.
+fn compare_pair(alloc: Global, view: &View<'_>, pair: Pair) -> Result<Compared, Fault> {
     let of_nodes = match checkpoint_differences(alloc, view.volume, pair.old, pair.new) {
         Ok(all) => all,
         Err(error) => return Err(tree_fault(alloc, view.path, error)),
@@ -80,15 +81,47 @@ pub fn tell_checkpoint_differences<W: Write>(
     let old = view.shown(alloc, pair.old)?.tree;
     let new = view.shown(alloc, pair.new)?.tree;
     let all = host_differences(alloc, old.as_slice(), new.as_slice(), of_nodes.as_slice())?;
+    Ok(Compared { old, new, all })
+}
+
+/// Tells what differs from one checkpoint to another at and below a path, as `tell_differences` does, with what
+/// is left of the paths there.
+pub fn tell_checkpoint_differences<W: Write>(
+    alloc: Global,
+    view: &View<'_>,
+    pair: Pair,
+    top: &[Name],
+    printer: &mut Printer<W>,
+) -> Result<usize, Fault> {
+    let (earlier, later) = (pair.old, pair.new);
+    let Compared { old, new, all } = compare_pair(alloc, view, pair)?;
     let mut count: usize = 0;
     for (path, difference) in all.as_slice() {
         let path = path.as_slice();
         if begins_with(path, top) {
-            let before = view.seen(alloc, pair.old, old.as_slice(), path)?;
-            let after = view.seen(alloc, pair.new, new.as_slice(), path)?;
+            let before = view.seen(alloc, earlier, old.as_slice(), path)?;
+            let after = view.seen(alloc, later, new.as_slice(), path)?;
             printer.difference(&path[top.len()..], *difference, before, after)?;
             count = count.saturating_add(1);
         }
     }
     Ok(count)
+}
+
+/// Whether two kept checkpoints differ at or below a path.
+pub fn differs_below(
+    alloc: Global,
+    view: &View<'_>,
+    pair: Pair,
+    top: &[Name],
+) -> Result<bool, Fault> {
+    if view.volume.pen.is_same_tree(pair.old, pair.new) {
+        return Ok(false);
+    }
+    let compared = compare_pair(alloc, view, pair)?;
+    let all = compared.all.as_slice();
+    Ok(
+        all.iter()
+            .any(|(path, _)| begins_with(path.as_slice(), top)),
+    )
 }

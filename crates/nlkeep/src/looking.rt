@@ -1,14 +1,18 @@
-//! `list`, `ls`, `cat`, `diff` and `restore`: what a volume keeps.
+//! What a volume keeps: `list`, `ls`, `cat` and `diff`, and the way to the other commands that look at one.
 use crate::amounts::{Amount, amount_of};
+use crate::archives::tar;
 use crate::asking::{Clock, Outcome, word};
 use crate::checkpoints::is_minor;
 use crate::comparing::{Pair, tell_checkpoint_differences};
 use crate::faults::{Fault, fault_at, tree_fault};
+use crate::history::{find, history};
 use crate::images::open_at;
 use crate::moments::shown;
+use crate::outline::{du, tree};
+use crate::parts::path_said;
 use crate::printing::{Printer, tell_refused};
 use crate::restore::restore;
-use crate::views::{View, path_said};
+use crate::views::View;
 use clap::ArgMatches;
 use nl_device::MemDevice;
 use nl_folders::begins_with;
@@ -170,6 +174,22 @@ fn look_at<W: Write>(
         "ls" => asked.ls(rt, printer),
         "cat" => asked.cat(printer),
         "diff" => asked.diff(printer),
+        "history" => history(
+            asked.alloc,
+            asked.view,
+            word(asked.matches, "PATH"),
+            asked.clock,
+            printer,
+        ),
+        "find" => find(
+            asked.alloc,
+            asked.view,
+            word(asked.matches, "NAME"),
+            printer,
+        ),
+        "tree" => tree(rt, asked.matches, asked.clock, asked.view, printer),
+        "du" => du(rt, asked.matches, asked.clock, asked.view, printer),
+        "tar" => tar(rt, asked.matches, asked.clock, asked.view, printer),
         _ => restore(rt, asked.matches, asked.clock, asked.view),
     }
 }

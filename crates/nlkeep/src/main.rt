@@ -2,24 +2,33 @@
 #![tactic(auto)]
 
 mod amounts;
+mod archives;
 mod asking;
 mod backup;
 mod checkpoints;
 mod comparing;
 mod faults;
 mod forgetting;
+mod grafting;
+mod history;
 mod images;
 mod looking;
 mod making;
 mod moments;
 mod options;
+mod outline;
+mod parts;
 mod printing;
 mod progress;
+mod pruning;
 mod restore;
+mod reverting;
 mod room;
 mod rounds;
 mod scanning;
 mod sizes;
+mod storing;
+mod unpacking;
 mod views;
 
 use asking::{Clock, Outcome};
@@ -47,6 +56,9 @@ fn done<W: Write>(
         "init" => making::init(rt, matches, clock),
         "backup" => backup::backup(rt, matches, clock, printer),
         "forget" => forgetting::forget(rt, matches, clock, printer),
+        "prune" => pruning::prune(rt, matches, clock, printer),
+        "untar" => archives::untar(rt, matches, clock, printer),
+        "revert" => reverting::revert(rt, matches, clock, printer),
         _ => looking::look(rt, name, matches, clock, printer),
     }
 }

@@ -3,6 +3,7 @@ use crate::faults::Fault;
 use jiff::civil::{Date, DateTime};
 use jiff::tz::{SystemTimeZone, TimeZone, TimeZoneDatabase};
 use jiff::{Error, Timestamp, ToSpan};
+use nl_retention::Periods;
 use std::alloc::Global;
 use std::time::{SystemTime, UNIX_EPOCH};
 
@@ -67,6 +68,44 @@ fn date_of(zone: TimeZone<'_>, moment: u64) -> Result<DateTime, Error> {
     let second = i64::try_from(moment).unwrap_or(i64::MAX);
     let zoned = Timestamp::from_second(second)?.to_zoned(zone);
     Ok(zoned.datetime())
+}
+
+/// A part of a date. None is below 0 from 1970 on.
+fn part(value: i16) -> u64 {
+    u64::try_from(value).unwrap_or(0)
+}
+
+/// A number for a part of a period that has fewer than so many of them.
+fn number_in(period: u64, parts: u64, part: u64) -> u64 {
+    period.saturating_mul(parts).saturating_add(part)
+}
+
+/// The periods that a date lies in. Weeks are those of ISO 8601, from Monday on.
+fn periods_of(date: DateTime) -> Periods {
+    let year = part(date.year());
+    let day = number_in(year, 367, part(date.date().day_of_year()));
+    let week = date.date().iso_week_date();
+    Periods {
+        hour: number_in(day, 24, part(i16::from(date.hour()))),
+        day,
+        week: number_in(part(week.year()), 54, part(i16::from(week.week()))),
+        month: number_in(year, 13, part(i16::from(date.month()))),
+        year,
+    }
+}
+
+/// The periods that a moment lies in, in a zone. Moments that have no date lie in one period, the last.
+pub fn periods(zone: TimeZone<'_>, moment: u64) -> Periods {
+    match date_of(zone, moment) {
+        Ok(date) => periods_of(date),
+        Err(_) => Periods {
+            hour: u64::MAX,
+            day: u64::MAX,
+            week: u64::MAX,
+            month: u64::MAX,
+            year: u64::MAX,
+        },
+    }
 }
 
 /// A moment as a date and time, or as the number of its seconds where it has no date.

@@ -82,6 +82,12 @@ const MOMENT: Argument<'static> = Argument {
     help: "Seconds since 1970 [default: the clock's]",
 };
 
+const DRY_RUN: Argument<'static> = Argument {
+    name: "dry-run",
+    kind: Kind::Letter('n'),
+    help: "Tells what would change, and changes nothing",
+};
+
 /// The commands, in the order of the help.
 const COMMANDS: &[Form<'static>] = &[
     Form {
@@ -107,11 +113,7 @@ const COMMANDS: &[Form<'static>] = &[
                 kind: Kind::Word,
                 help: "Folder to keep",
             },
-            Argument {
-                name: "dry-run",
-                kind: Kind::Letter('n'),
-                help: "Tells what would change, and changes nothing",
-            },
+            DRY_RUN,
             Argument {
                 name: "exclude",
                 kind: Kind::Repeated("PATTERN"),
@@ -203,6 +205,65 @@ const COMMANDS: &[Form<'static>] = &[
         ],
     },
     Form {
+        name: "history",
+        about: "Tells at which checkpoints what stands at a path changed",
+        arguments: &[
+            IMAGE,
+            Argument {
+                name: "PATH",
+                kind: Kind::Word,
+                help: "Path of a file, folder or link",
+            },
+        ],
+    },
+    Form {
+        name: "find",
+        about: "Tells where in each checkpoint something has a name",
+        arguments: &[
+            IMAGE,
+            Argument {
+                name: "NAME",
+                kind: Kind::Word,
+                help: "Name of a file, folder or link, without a path",
+            },
+        ],
+    },
+    Form {
+        name: "tree",
+        about: "Draws the files and folders of a checkpoint",
+        arguments: &[IMAGE, NUMBER, PATH],
+    },
+    Form {
+        name: "du",
+        about: "Tells how many bytes the files of each folder of a checkpoint have",
+        arguments: &[IMAGE, NUMBER, PATH],
+    },
+    Form {
+        name: "revert",
+        about: "Brings a file or a folder of a checkpoint back, as the next snapshot",
+        arguments: &[
+            IMAGE,
+            NUMBER,
+            Argument {
+                name: "PATH",
+                kind: Kind::Word,
+                help: "Path of the file or folder",
+            },
+            MOST,
+            MOMENT,
+        ],
+    },
+    Form {
+        name: "tar",
+        about: "Writes a checkpoint as an archive to standard output",
+        arguments: &[IMAGE, NUMBER, PATH],
+    },
+    Form {
+        name: "untar",
+        about: "Keeps an archive from standard input, as the next snapshot",
+        arguments: &[IMAGE, MOST, MOMENT],
+    },
+    Form {
         name: "forget",
         about: "Removes checkpoints",
         arguments: &[
@@ -213,6 +274,45 @@ const COMMANDS: &[Form<'static>] = &[
                 help: "Number of a checkpoint, or two with .. between them",
             },
             MOST,
+            MOMENT,
+        ],
+    },
+    Form {
+        name: "prune",
+        about: "Removes the checkpoints that no rule keeps",
+        arguments: &[
+            IMAGE,
+            Argument {
+                name: "last",
+                kind: Kind::Valued("N"),
+                help: "The last N stay",
+            },
+            Argument {
+                name: "hourly",
+                kind: Kind::Valued("N"),
+                help: "The newest of each of the last N hours that have one stays",
+            },
+            Argument {
+                name: "daily",
+                kind: Kind::Valued("N"),
+                help: "The same of days",
+            },
+            Argument {
+                name: "weekly",
+                kind: Kind::Valued("N"),
+                help: "The same of weeks, from Monday on",
+            },
+            Argument {
+                name: "monthly",
+                kind: Kind::Valued("N"),
+                help: "The same of months",
+            },
+            Argument {
+                name: "yearly",
+                kind: Kind::Valued("N"),
+                help: "The same of years",
+            },
+            DRY_RUN,
             MOMENT,
         ],
     },

@@ -1,7 +1,8 @@
 //! What goes to standard output and error.
 use nl_folders::{Name, Path, begins_with};
-use nl_host::LeftOut;
+use nl_host::{LeftOut, Reason};
 use nl_manifests::{Attributes, HostDifference, HostEntry, HostNode, LineFault};
+use std::alloc::Global;
 use std::io::{self, IsTerminal, Write};
 use std::str;
 
@@ -90,14 +91,28 @@ fn sign(difference: HostDifference) -> char {
 }
 
 impl<W: Write> Printer<W> {
-    /// A path, and where it leads to, if it is that of a link.
-    fn place(&mut self, path: &[Name], seen: Seen<'_>) -> io::Result<()> {
-        self.path(path, is_folder(seen))?;
+    /// Where a link leads to.
+    fn target(&mut self, seen: Seen<'_>) -> io::Result<()> {
         if let HostNode::Link(target) = &seen.entry.node {
             self.out.write_all(b" -> ")?;
             self.name(target.as_slice())?;
         }
         Ok(())
+    }
+
+    /// A path, and where it leads to, if it is that of a link.
+    fn place(&mut self, path: &[Name], seen: Seen<'_>) -> io::Result<()> {
+        self.path(path, is_folder(seen))?;
+        self.target(seen)
+    }
+
+    /// A name, with a slash behind that of a directory, and where it leads to, if it is that of a link.
+    pub fn named(&mut self, name: &[u8], seen: Seen<'_>) -> io::Result<()> {
+        self.name(name)?;
+        if is_folder(seen) {
+            self.out.write_all(b"/")?;
+        }
+        self.target(seen)
     }
 
     /// What stands at a path, in a line: how many bytes a file has, and the path.
@@ -107,6 +122,22 @@ impl<W: Write> Printer<W> {
             _ => write!(self.out, "{:>10}  ", "")?,
         }
         self.place(path, seen)?;
+        self.line()
+    }
+
+    /// What stands at a path, if anything, in a line without the path.
+    pub fn standing(&mut self, seen: Option<Seen<'_>>) -> io::Result<()> {
+        match seen {
+            Some(seen) => match &seen.entry.node {
+                HostNode::File(_) => write!(self.out, "{:>10} bytes", seen.size)?,
+                HostNode::Directory => write!(self.out, "folder")?,
+                HostNode::Link(target) => {
+                    self.out.write_all(b"-> ")?;
+                    self.name(target.as_slice())?;
+                }
+            },
+            None => write!(self.out, "gone")?,
+        }
         self.line()
     }
 
@@ -263,4 +294,35 @@ pub fn tell_refused(rt: &HostRuntime, all: &[(Path, LineFault)], top: &[Name]) -
         }
     }
     is_whole
+}
+
+impl<W: Write> Printer<W> {
+    fn path_left_out(&mut self, path: &[Name], reason: Reason) -> io::Result<()> {
+        write!(self.out, "nlkeep: left out: ")?;
+        self.path(path, false)?;
+        writeln!(self.out, ": {reason}")
+    }
+}
+
+/// Tells what is left out of an archive, a line each, on standard error.
+pub fn tell_paths_left_out(rt: &HostRuntime, all: &[(Path, Reason)]) {
+    let mut printer = Printer {
+        out: rt.stderr(),
+        is_terminal: rt.stderr().is_terminal(),
+    };
+    for (path, reason) in all {
+        if printer.path_left_out(path.as_slice(), *reason).is_err() {
+            return;
+        }
+    }
+}
+
+/// A path of a volume for a line on standard error, where control characters of names would do harm.
+pub fn path_text(alloc: Global, path: &[Name]) -> io::Result<Vec<u8>> {
+    let mut printer = Printer {
+        out: Vec::new(alloc),
+        is_terminal: true,
+    };
+    printer.path(path, false)?;
+    Ok(printer.out)
 }

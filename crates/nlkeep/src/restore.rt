@@ -1,14 +1,13 @@
 //! `restore`: a checkpoint's tree is laid out in a folder of the host.
 use crate::asking::{Clock, Outcome, word};
 use crate::faults::{Fault, fault_at, system_fault};
+use crate::parts::{part_wanted, path_said};
 use crate::printing::{tell_left_out, tell_refused};
-use crate::views::{View, part_said, path_said};
+use crate::views::View;
 use clap::ArgMatches;
-use nl_folders::{Name, Path};
+use nl_folders::Path;
 use nl_host::{LeftOut, lay_out, set_attributes};
-use nl_manifests::{HostEntry, HostNode, HostTree};
-use nl_types::Items;
-use std::alloc::{AllocError, Global};
+use nl_manifests::HostEntry;
 use std::fs;
 use std::io::{self, ErrorKind};
 
@@ -29,31 +28,6 @@ fn make_folder(rt: &HostRuntime, folder: &str) -> Result<(), Fault> {
         Ok(true) => Ok(()),
         Ok(false) => Err(fault_at(rt.alloc(), folder, "is there and not empty")),
         Err(error) => Err(system_fault(rt.alloc(), folder, "is no folder to write to", &error)),
-    }
-}
-
-/// A file or a link that is restored alone stands under its name in the folder.
-fn under_name(alloc: Global, part: HostTree, path: &[Name]) -> Result<HostTree, AllocError> {
-    let mut tree = Items::new(alloc);
-    if let Some(name) = path.last() {
-        for (_, entry) in part.into_vec() {
-            let mut path = Items::new(alloc);
-            path.push(Items::from_slice(alloc, name.as_slice())?)?;
-            tree.push((path, entry))?;
-        }
-    }
-    Ok(tree)
-}
-
-/// What is to be laid out.
-fn part_wanted(alloc: Global, tree: HostTree, word: &str) -> Result<HostTree, Fault> {
-    let part = part_said(alloc, tree, word)?;
-    match part.as_slice() {
-        [(_, entry), ..] if !matches!(entry.node, HostNode::Directory) => {
-            let path = path_said(alloc, word)?;
-            Ok(under_name(alloc, part, path.as_slice())?)
-        }
-        _ => Ok(part),
     }
 }
 

@@ -8,17 +8,14 @@ use crate::rounds::Round;
 use nl_core::Pen;
 use nl_device::Device;
 use nl_folders::{Path, all_differences, find_in};
-use nl_keep::laws::block_events_keep_all;
+use nl_keep::laws;
 use nl_keep_pen::{PenVolume, Preparing, Tidying};
 use nl_sufile::Sustat;
-use nl_types::{Event, Node, Reply, VolError};
+use nl_types::{BLOCK_SIZE, Event, MAX_PAYLOAD, Node, Reply, VolError};
 use std::alloc::{AllocError, Global};
 
-/// How many bytes a block has.
-const BLOCK: usize = 1024;
-
 /// How many blocks of a log there are for each summary block, at most.
-const PAYLOAD: u64 = 30;
+const PAYLOAD: u64 = MAX_PAYLOAD as u64;
 
 /// How many blocks a node of a block tree names.
 const SLOTS: u64 = 128;
@@ -35,10 +32,10 @@ const SPARE: u64 = 4;
 
 /// The first block of these bytes, and the rest. The last block may be shorter, and behind it is none.
 fn split_block(bytes: &[u8]) -> (&[u8], &[u8]) {
-    if bytes.len() < BLOCK {
+    if bytes.len() < BLOCK_SIZE {
         bytes.split_at(bytes.len())
     } else {
-        bytes.split_at(BLOCK)
+        bytes.split_at(BLOCK_SIZE)
     }
 }
 
@@ -46,7 +43,7 @@ fn split_block(bytes: &[u8]) -> (&[u8], &[u8]) {
 fn other_blocks(old: &[u8], new: &[u8]) -> u64 {
     let mut old = old;
     let mut count: u64 = 0;
-    for block in new.chunks(BLOCK) {
+    for block in new.chunks(BLOCK_SIZE) {
         let (before, rest) = split_block(old);
         if before != block {
             count = count.saturating_add(1);
@@ -62,7 +59,9 @@ fn file_blocks(old: Option<&Node>, new: &[u8]) -> u64 {
         Some(Node::File(old)) => other_blocks(old.as_slice(), new),
         _ => other_blocks(&[], new),
     };
-    let nodes = (new.len() as u64).div_ceil(BLOCK as u64).div_ceil(SLOTS);
+    let nodes = (new.len() as u64)
+        .div_ceil(BLOCK_SIZE as u64)
+        .div_ceil(SLOTS);
     data.saturating_add(nodes.min(data)).saturating_add(2)
 }
 
@@ -77,7 +76,7 @@ fn directory_blocks(tree: &[(Path, Node)]) -> u64 {
             directories = directories.saturating_add(1);
         }
     }
-    directories.saturating_add(bytes.div_ceil(BLOCK as u64))
+    directories.saturating_add(bytes.div_ceil(BLOCK_SIZE as u64))
 }
 
 /// How many blocks of the file of inodes change with so many inodes of a tree of so many.
@@ -218,7 +217,7 @@ impl<'t> Room<'t> {
         let blocks = u64::from(pen.segments().blocks());
         let written = blocks_between(self.alloc, earlier, self.wanted)?;
         let lacking = segments_for(written, blocks).saturating_sub(stat.clean as u64);
-        let segment_bytes = blocks.saturating_mul(BLOCK as u64);
+        let segment_bytes = blocks.saturating_mul(BLOCK_SIZE as u64);
         let segments = self.wanted_segments(stat, segment_bytes, lacking);
         self.grow(pen, segments, segment_bytes)
     }
@@ -228,7 +227,7 @@ impl<'t> Room<'t> {
 fn resize<D: Device>(pen: &mut Pen<D>, segments: u32) -> Reply
     ensures { LeadsTo KeepsOwn (MeansWorld pen.old) (MeansWorld pen.new) }
 {
-    block_events_keep_all();
+    laws::block_events_keep_all();
     pen.apply(&Event::Resize(segments))
 }
 

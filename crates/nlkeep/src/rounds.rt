@@ -6,14 +6,12 @@ ghost use Rattle.nl_keep.specs.Volumes.{LeadsTo};
 ghost use Rattle.nl_cleaner.specs.Job.{steps_left};
 
 use nl_cleaner::{Job, plan};
+use nl_config::{Amount, Config};
 use nl_core::Pen;
 use nl_device::Device;
-use nl_keep::laws::{block_events_keep_all, minor_removals_keep_own};
 use nl_keep::remove_minor;
 use nl_keep_pen::{PenVolume, Tidying};
-use nl_protect::{Amount, Config};
-use nl_types::VolError;
-use nl_types::laws::{boundaries_are_least_protected, expiries_are_removals};
+use nl_types::{Moment, VolError};
 use std::alloc::Global;
 
 /// All is protected. As many segments are cleaned as give anything.
@@ -48,9 +46,9 @@ fn go_on<D: Device>(job: &mut Job, pen: &mut Pen<D>) -> bool
     ensures keeps { LeadsTo KeepsOwn (MeansWorld pen.old) (MeansWorld pen.new) }
     ensures fewer { result ≡ true → steps_left job.new pen.new < steps_left job.old pen.old }
 {
-    block_events_keep_all();
-    boundaries_are_least_protected();
-    expiries_are_removals();
+    nl_keep::laws::block_events_keep_all();
+    nl_types::laws::boundaries_are_least_protected();
+    nl_types::laws::expiries_are_removals();
     match job.step(pen) {
         Some(_) => true,
         None => false,
@@ -70,7 +68,7 @@ fn clean<D: Device>(alloc: Global, pen: &mut Pen<D>, moment: u64) -> Result<(), 
     ensures { OnOk result (LeadsTo KeepsOwn (MeansWorld pen.old) (MeansWorld pen.new)) }
 {
     let config = configuration();
-    let mut job = plan(alloc, pen, &config, protecting(moment))?;
+    let mut job = plan(alloc, pen, &config, Moment::new(protecting(moment)))?;
     do_round(&mut job, pen);
     Ok(())
 }
@@ -85,7 +83,7 @@ pub struct Round {
 
 impl Tidying for Round {
     fn tidy<D: Device>(&mut self, volume: &mut PenVolume<D>) -> Result<(), VolError> {
-        minor_removals_keep_own();
+        nl_keep::laws::minor_removals_keep_own();
         remove_minor(volume)?;
         clean(self.alloc, &mut volume.pen, self.moment)
     }

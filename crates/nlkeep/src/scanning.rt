@@ -4,13 +4,14 @@ use crate::progress::{Progress, Reading};
 use nl_folders::{FolderError, Path as TreePath, Tree};
 use nl_host::{HostFolder, LeftOut, Pattern, Selection, TooBig, read_folder};
 use nl_manifests::{HostEntry, SealError, seal};
-use nl_types::VolError;
+use nl_types::limits::VOLUME_BLOCK_LIMIT;
+use nl_types::{BLOCK_SIZE, VolError};
 use std::alloc::{AllocError, Global};
 use std::path::{Path, PathBuf};
 use std::{fs, io};
 
 /// The most bytes that a volume has.
-const MOST_BYTES: u64 = 268_435_456;
+const MOST_BYTES: u64 = VOLUME_BLOCK_LIMIT as u64 * BLOCK_SIZE as u64;
 
 /// The folder that is to be kept.
 #[derive(Clone, Copy)]

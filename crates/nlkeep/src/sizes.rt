@@ -1,17 +1,18 @@
 //! Sizes of volumes, as a person says them.
-use nl_types::decimal;
+use nl_types::limits::{FEWEST_SEGMENTS, SEGMENT_LIMIT};
+use nl_types::{BLOCK_SIZE, decimal};
 use std::alloc::{AllocError, Global};
 
 /// How many blocks each segment has. A volume of such segments can have any size up to the greatest.
 pub const BLOCKS: u32 = 64;
 
 /// How many bytes a segment has.
-pub const SEGMENT_BYTES: u64 = 65_536;
+pub const SEGMENT_BYTES: u64 = BLOCKS as u64 * BLOCK_SIZE as u64;
 
 /// The fewest and the most segments.
-pub const FEWEST: u32 = 8;
+pub const FEWEST: u32 = FEWEST_SEGMENTS;
 
-pub const MOST: u32 = 4096;
+pub const MOST: u32 = SEGMENT_LIMIT;
 
 /// How many bytes a word such as `8M`, `512K` or `65536` says.
 fn bytes_said(word: &str) -> Option<u64> {

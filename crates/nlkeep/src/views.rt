@@ -3,15 +3,14 @@ use crate::asking::Clock;
 use crate::checkpoints::{meant, rows};
 use crate::faults::{Fault, fault_at, tree_fault, volume_fault};
 use crate::moments::shown;
+use crate::parts::path_said;
 use crate::printing::Seen;
 use nl_device::MemDevice;
-use nl_folders::{
-    Folder, FolderError, Name, Path, Tree, copied, find_in, part_below, spelled, whole_tree,
-};
+use nl_folders::{Folder, FolderError, Name, Path, Tree, copied, find_in, spelled};
 use nl_keep::{CheckpointFolder, Volume, checkpoint_tree};
-use nl_keep_pen::PenVolume;
+use nl_keep_pen::{PenVolume, is_manifest_path, unread_tree};
 use nl_manifests::{HostEntry, HostNode, HostTree, Opened, open};
-use nl_types::{Answer, Ask, CheckpointNumber, Items, Named, Node, Reply, Row, Stat, VolError};
+use nl_types::{Answer, Ask, CheckpointNumber, Items, Node, Reply, Row, Stat, VolError};
 use std::alloc::{AllocError, Global};
 
 /// The volume of an image.
@@ -93,10 +92,7 @@ impl<'a> View<'a> {
 
     /// What a kept checkpoint shows, but for the bytes of files: of these, manifests alone are read.
     pub fn shown(&self, alloc: Global, number: CheckpointNumber) -> Result<Opened, Fault> {
-        let mut names = Names {
-            folder: self.folder_of(number),
-        };
-        match whole_tree(alloc, &mut names) {
+        match unread_tree(alloc, self.volume, number) {
             Ok(tree) => Ok(open(alloc, tree.as_slice())?),
             Err(error) => Err(tree_fault(alloc, self.path, error)),
         }
@@ -183,21 +179,13 @@ fn is_of_no_entry(error: VolError) -> bool {
     )
 }
 
-/// Whether a path has the name of a manifest.
-fn is_of_manifest(path: &[Name]) -> bool {
-    match path {
-        [.., name] => name.as_slice() == b".nlkeep".as_slice(),
-        [] => false,
-    }
-}
-
 /// What a tree shows, but for the bytes of files.
 pub fn shown_alone(alloc: Global, tree: &[(Path, Node)]) -> Result<HostTree, AllocError> {
     let mut alone = Items::new(alloc);
     for (path, node) in tree {
         let node = match node {
             Node::Dir => Node::Dir,
-            Node::File(bytes) if is_of_manifest(path.as_slice()) => {
+            Node::File(bytes) if is_manifest_path(path.as_slice()) => {
                 Node::File(Items::from_slice(alloc, bytes.as_slice())?)
             }
             Node::File(_) => Node::File(Items::new(alloc)),
@@ -205,55 +193,4 @@ pub fn shown_alone(alloc: Global, tree: &[(Path, Node)]) -> Result<HostTree, All
         alone.push((copied(alloc, path.as_slice())?, node))?;
     }
     Ok(open(alloc, alone.as_slice())?.tree)
-}
-
-/// A folder of which no files are read but those that have the name of a manifest.
-#[derive(Drop)]
-struct Names<F: Folder> {
-    folder: F,
-}
-
-impl<F: Folder> Folder for Names<F> {
-    ghost use Rattle.std.specs.Prelude.{⊤};
-
-    ghost shows = { λ f tree. ⊥ };
-
-    ghost keeps = { λ f g. ⊤ };
-
-    ghost keeps_itself = { λ f. tt };
-
-    ghost keeps_on = { λ f g h one other. tt };
-
-    fn list(&mut self, alloc: Global, path: &[Name]) -> Result<Items<Named>, FolderError> {
-        self.folder.list(alloc, path)
-    }
-
-    fn read(&mut self, alloc: Global, path: &[Name]) -> Result<Items<u8>, FolderError> {
-        if is_of_manifest(path) {
-            self.folder.read(alloc, path)
-        } else {
-            Ok(Items::new(alloc))
-        }
-    }
-}
-
-/// The names that a word says. A slash in front or behind, or one more between two names, says nothing.
-pub fn path_said(alloc: Global, word: &str) -> Result<Path, AllocError> {
-    let mut path = Items::new(alloc);
-    for name in word.split('/') {
-        if !name.is_empty() {
-            path.push(Items::from_slice(alloc, name.as_bytes())?)?;
-        }
-    }
-    Ok(path)
-}
-
-/// What lies at and below the path that a word says, with the rest of the paths.
-pub fn part_said(alloc: Global, tree: HostTree, word: &str) -> Result<HostTree, Fault> {
-    let path = path_said(alloc, word)?;
-    let part = part_below(alloc, tree, path.as_slice())?;
-    if part.is_empty() {
-        return Err(fault_at(alloc, word, "nothing is there"));
-    }
-    Ok(part)
 }

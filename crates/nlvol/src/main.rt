@@ -1,7 +1,11 @@
 //! Runs a script of file calls, checkpoints, mounts and rounds of cleaning on a volume in memory.
 #![tactic(auto)]
 
-use nl_session::session;
+mod prompting;
+
+use nl_session::{SessionEnd, session};
+use prompting::{Typed, Watched};
+use std::cell::Cell;
 use std::fs::File;
 use std::io::{BufWriter, ErrorKind, IsTerminal};
 use std::process::ExitCode;
@@ -26,6 +30,34 @@ fn arguments<'a>(rt: &HostRuntime, words: &'a [String]) -> io::Result<Vec<&'a st
     Ok(arguments)
 }
 
+/// Runs the session of a person who types its lines, and is asked for each.
+fn typed<R: AllocGlobal + Files<File = File> + Threads + Wait + Sync>(
+    rt: &HostRuntime,
+    handles: &R,
+    arguments: &[&str],
+) -> io::Result<SessionEnd> {
+    let is_misread = Cell::new(false);
+    let watched = Watched {
+        out: rt.stdout(),
+        is_misread: &is_misread,
+    };
+    let mut output = BufWriter::new(rt.alloc(), watched)?;
+    let input = Typed::new(rt, &is_misread);
+    let errors = &mut rt.stderr();
+    Ok(session(handles, arguments, true, input, &mut output, errors))
+}
+
+/// Runs the session of a script.
+fn piped<R: AllocGlobal + Files<File = File> + Threads + Wait + Sync>(
+    rt: &HostRuntime,
+    handles: &R,
+    arguments: &[&str],
+) -> io::Result<SessionEnd> {
+    let mut output = BufWriter::new(rt.alloc(), rt.stdout())?;
+    let errors = &mut rt.stderr();
+    Ok(session(handles, arguments, false, rt.stdin(), &mut output, errors))
+}
+
 /// Answers the exit status. `handles` is the system too, with what `main` alone may hand on: threads, and
 /// that a call may wait.
 fn run<R: AllocGlobal + Files<File = File> + Threads + Wait + Sync>(
@@ -34,16 +66,12 @@ fn run<R: AllocGlobal + Files<File = File> + Threads + Wait + Sync>(
 ) -> io::Result<u8> {
     let words = words(rt)?;
     let arguments = arguments(rt, words.as_slice())?;
-    let mut output = BufWriter::new(rt.alloc(), rt.stdout())?;
     let is_typed = rt.stdin().is_terminal() && rt.stderr().is_terminal();
-    let end = session(
-        handles,
-        arguments.as_slice(),
-        is_typed,
-        rt.stdin(),
-        &mut output,
-        &mut rt.stderr(),
-    );
+    let end = if is_typed {
+        typed(rt, handles, arguments.as_slice())?
+    } else {
+        piped(rt, handles, arguments.as_slice())?
+    };
     Ok(end.status)
 }
 

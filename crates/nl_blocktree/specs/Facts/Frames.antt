@@ -3,9 +3,9 @@ use Rattle.std.proofs.Common.{◌≡◌, ℕ, zero, suc, ◌<◌, List, [], ◌�
 use Rattle.std.specs.List.{Contains}
 use Rattle.std.specs.Option.{option_and_then, IsSome}
 use Rattle.std.proofs.lemmas.Bool.{cases_eq, eq-eqb, ne_eqb}
-use Rattle.nl_types.specs.Entries.{Birth, Content}
-use Rattle.nl_types.specs.RootChanges.{Includes, IsSound, KeepsFile, born, with_births}
-use Rattle.nl_types.specs.Roots.{Empty, Pages, Root, numbered, pages_of, place_at, slot}
+use Rattle.nl_types.specs.Blocks.Entries.{Birth, Content}
+use Rattle.nl_types.specs.Blocks.RootChanges.{Includes, IsSound, KeepsFile, born, with_births}
+use Rattle.nl_types.specs.Blocks.Roots.{Empty, Pages, Root, numbered, pages_of, place_at, slot}
 use Rattle.nl_blocktree.specs.Private.Chains.{raw}
 use Rattle.nl_blocktree.specs.Checkpoints.{AgreeWhere}
 use Rattle.nl_blocktree.specs.Numbering.{IsUnused}

@@ -6,9 +6,9 @@ use Rattle.std.proofs.lemmas.Bool.{eqb-true, eq-eqb, or_cases}
 use Rattle.std.proofs.lemmas.List.{append-nil, map-append}
 use Rattle.std.proofs.lemmas.List.Elements.{Contains-append_left, Contains-push}
 use Rattle.nl_types.specs.Facts.Births.{uncons}
-use Rattle.nl_types.specs.Entries.{Birth, Content, number_of}
-use Rattle.nl_types.specs.RootChanges.{born}
-use Rattle.nl_types.specs.Roots.{Root, numbered}
+use Rattle.nl_types.specs.Blocks.Entries.{Birth, Content, number_of}
+use Rattle.nl_types.specs.Blocks.RootChanges.{born}
+use Rattle.nl_types.specs.Blocks.Roots.{Root, numbered}
 use Rattle.nl_vstore.specs.Batches.{Changes, CanBeTaken, IsLowestFree, is_born, TakeLowestFree}
 use Rattle.nl_vstore.specs.Stores.{capacity}
 use Rattle.nl_blocktree.specs.Checkpoints.{ArePut, FileChange, NumbersAreLowest, batch_after, no_changes}

@@ -4,7 +4,7 @@ use Rattle.std.specs.List.{slice_get}
 use Rattle.std.proofs.lemmas.Bool.{cases_lt}
 use Rattle.std.proofs.lemmas.List.{get_or_past}
 use Rattle.std.proofs.lemmas.Option.{slice_get_past}
-use Rattle.nl_types.specs.Roots.{Chain, Empty, OfTree, Pages, Root, Tree, chain_node, child, kind_of, place_at}
+use Rattle.nl_types.specs.Blocks.Roots.{Chain, Empty, OfTree, Pages, Root, Tree, chain_node, child, kind_of, place_at}
 use Rattle.nl_blocktree.specs.Private.Chains.{ChainAsLists, raw, top_of}
 use Rattle.nl_blocktree.specs.Facts.Chains.{chain_node-ended, chain_node-more}
 

@@ -8,11 +8,11 @@ use Rattle.std.proofs.lemmas.List.{append-nil}
 use Rattle.std.proofs.lemmas.List.Elements.{Contains-append_cases, Contains-append_left, Contains-append_right, Contains-get_or}
 use Rattle.nl_types.specs.Facts.Births.{one_of-is, is-one_of, found, not_found, given, given_in, pages-written}
 use Rattle.nl_types.specs.Facts.ExactLifetimes.{ledger_after-IsLedger}
-use Rattle.nl_types.specs.Entries.{Birth, Content, Entry, GivenOnce, Place, birth_of}
-use Rattle.nl_types.specs.Lifetimes.{Allowed, IsBatch, IsExact, IsLedger, Ledger, Numbers, birth_at, born_or_left, numbers_after, numbers_at}
-use Rattle.nl_types.specs.NumberLists.{NoneTwice, is_one_of}
-use Rattle.nl_types.specs.RootChanges.{IsAt, IsSound, IsWrittenPlace, KeepsFile, NodeWritten, Reaches, born, new_kind, of_chain, of_tree, places, was_absent, with_births}
-use Rattle.nl_types.specs.Roots.{Pages, Root, page_at, pages_of, place_at}
+use Rattle.nl_types.specs.Blocks.Entries.{Birth, Content, Entry, GivenOnce, Place, birth_of}
+use Rattle.nl_types.specs.Blocks.Lifetimes.{Allowed, IsBatch, IsExact, IsLedger, Ledger, Numbers, birth_at, born_or_left, numbers_after, numbers_at}
+use Rattle.nl_types.specs.Plain.NumberLists.{NoneTwice, is_one_of}
+use Rattle.nl_types.specs.Blocks.RootChanges.{IsAt, IsSound, IsWrittenPlace, KeepsFile, NodeWritten, Reaches, born, new_kind, of_chain, of_tree, places, was_absent, with_births}
+use Rattle.nl_types.specs.Blocks.Roots.{Pages, Root, page_at, pages_of, place_at}
 use Rattle.nl_vstore.specs.Batches.{Changes, is_live}
 use Rattle.nl_blocktree.specs.Checkpoints.{ArePut, AreRenewed, ComesBefore, ComesFirst, FileChange, ReachesNewRoots, WritesWhatDiffers, batch_after, batch_of, checkpoint_of, inodes_of, no_changes, numbers_of, roots_after, checkpoint_event}
 use Rattle.nl_blocktree.specs.Numbering.{IsUnused}

@@ -2,8 +2,8 @@
 use Rattle.std.proofs.Common.{◌≡◌, ℕ, zero, suc, ◌-◌, ◌/◌, ◌%◌, ◌<◌, ◌≤◌, List, Option, Some, None, refl, ap, sym, subst, ◌∙◌, arith, inl, inr}
 use Rattle.std.specs.Option.{option_and_then, IsSome}
 use Rattle.std.proofs.lemmas.Bool.{cases_lt, le-leb, lt-leb}
-use Rattle.nl_types.specs.RootChanges.{IsSound, IsWrittenPlace, KeepsFile, NodeWritten, new_kind, of_chain, of_tree, was_absent}
-use Rattle.nl_types.specs.Roots.{Chain, Empty, Pages, Root, Tree, below_top, chain_node, child, height_of, page_at, place_at, slot}
+use Rattle.nl_types.specs.Blocks.RootChanges.{IsSound, IsWrittenPlace, KeepsFile, NodeWritten, new_kind, of_chain, of_tree, was_absent}
+use Rattle.nl_types.specs.Blocks.Roots.{Chain, Empty, Pages, Root, Tree, below_top, chain_node, child, height_of, page_at, place_at, slot}
 use Rattle.nl_blocktree.specs.Checkpoints.{AgreeWhere}
 
 pub some-of : {X : Type 0} (o : Option X) → IsSome o → (x : X) × (o ≡ Some x)

@@ -6,9 +6,9 @@ use Rattle.std.proofs.lemmas.Bool.{cases_eq, eq-eqb, ne_eqb}
 use Rattle.std.proofs.lemmas.List.{append-nil, get_or-map, get_or-take, length-map, length-take, map-append}
 use Rattle.std.proofs.lemmas.List.Elements.{Contains-append_cases, Contains-append_left, Contains-append_right, Contains-push}
 use Rattle.smallvec.specs.SmallVec.{SmallVec}
-use Rattle.nl_types.specs.Entries.{Birth, Content}
-use Rattle.nl_types.specs.RootChanges.{InPayloadOrder, PrecedesInPayload}
-use Rattle.nl_types.specs.Roots.{Pages, pages_of}
+use Rattle.nl_types.specs.Blocks.Entries.{Birth, Content}
+use Rattle.nl_types.specs.Blocks.RootChanges.{InPayloadOrder, PrecedesInPayload}
+use Rattle.nl_types.specs.Blocks.Roots.{Pages, pages_of}
 use Rattle.nl_vstore.specs.Batches.{IsLowestFree, TakeLowestFree}
 use Rattle.nl_blocktree.specs.Changed.{blocks_with, indexes}
 use Rattle.nl_blocktree.specs.declared.change.BlockChange.{BlockChange}

@@ -2,7 +2,7 @@
 use Rattle.std.proofs.Common.{◌≡◌, ◌≢◌, ℕ, zero, suc, ◌+◌, ◌*◌, ◌-◌, ◌/◌, ◌%◌, ◌^◌, ◌<◌, ◌≤◌, Option, Some, None, refl, ap, sym, subst, ◌∙◌, arith, inl, inr, ◌⊎◌}
 use Rattle.std.proofs.Math.Nat.{div-div-eq-div-mul, pow-suc, div-one, one-le-pow, lt-div-mul-add, zero-mul}
 use Rattle.std.proofs.lemmas.Bool.{cases_eq, cases_lt, ne_eqb, le-leb, lt-leb}
-use Rattle.nl_types.specs.Roots.{Pages, Tree, below_top, child, numbered, place_at}
+use Rattle.nl_types.specs.Blocks.Roots.{Pages, Tree, below_top, child, numbered, place_at}
 use Rattle.nl_blocktree.specs.Private.TreeLevels.{AreLevels, Levels, only}
 
 -- ---- places and levels

@@ -1,7 +1,7 @@
 -- A chain as lists: its nodes' numbers, and the numbers in all its slots, one node after the other.
 use Rattle.std.specs.Prelude.{◌≡◌, ℕ, List, slice_index, slice_get, Option, None}
 use Rattle.std.specs.Option.{unwrap_or}
-use Rattle.nl_types.specs.Roots.{Pages, Root, Empty, Chain, Tree, numbered, place_at}
+use Rattle.nl_types.specs.Blocks.Roots.{Pages, Root, Empty, Chain, Tree, numbered, place_at}
 
 -- the number of a slot, 0 for none
 abbrev pub raw : Option ℕ → ℕ

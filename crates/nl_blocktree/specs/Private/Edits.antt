@@ -2,8 +2,8 @@
 use Rattle.std.specs.Prelude.{◌≡◌, ◌≢◌, ◌<◌, ◌≤◌, ◌==◌, ◌&&◌, nat_lt, not, Bool, true, false, ◌+◌, ◌/◌, ◌^◌, ℕ, suc, if◌then◌else◌, List, [], ◌∷◌, slice_index, length, Option, None, Some}
 use Rattle.std.specs.List.{All, AllPairs, Contains}
 use Rattle.smallvec.specs.SmallVec.{SmallVec}
-use Rattle.nl_types.specs.Limits.{index_limit}
-use Rattle.nl_types.specs.Roots.{Pages, Root, Empty, Chain, Tree, numbered}
+use Rattle.nl_types.specs.Plain.Limits.{index_limit}
+use Rattle.nl_types.specs.Blocks.Roots.{Pages, Root, Empty, Chain, Tree, numbered}
 use Rattle.nl_blocktree.specs.Private.TreeLevels.{Levels, kept_levels, tree_height}
 use Rattle.nl_blocktree.specs.declared.tree.Edit.{Edit}
 
@@ -82,8 +82,8 @@ top_edits (Tree old top) level height ups =
     with_front ((old == level) && (nat_lt level height && not (begins_low ups))) top ups
 
 -- what stood at the lowest level that has no node above it is all told by edits
-abbrev pub IsTold : Pages → Root → (level height : ℕ) → List Edit → Type 0
-IsTold pages root level height edits = tree_height root ≤ level → level < height →
+abbrev pub AreToldByEdits : Pages → Root → (level height : ℕ) → List Edit → Type 0
+AreToldByEdits pages root level height edits = tree_height root ≤ level → level < height →
     (i v : ℕ) → kept_levels pages root level i ≡ Some v → IsEdited edits i
 
 -- what stands as data of a root that is no tree is all told by edits

@@ -1,14 +1,14 @@
 -- A root that is written anew: from the lowest level up, and then as low as can be.
 use Rattle.std.specs.Prelude.{◌≡◌, ◌≢◌, ◌⊎◌, ◌<◌, ◌≤◌, ◌+◌, ◌*◌, ◌-◌, ◌/◌, ◌%◌, ◌^◌, ◌++◌, ℕ, suc, List, [], ◌∷◌, length, take, IsSome, None, Some, true}
 use Rattle.std.specs.List.{All, AllPairs, Contains}
-use Rattle.nl_types.specs.Entries.{Birth, Content}
-use Rattle.nl_types.specs.Roots.{Pages, Root, Tree, NoBlocks, OfChain, OfTree, child, height_of, kind_of, pages_of, place_at}
-use Rattle.nl_types.specs.RootChanges.{HasTreeShape, InPayloadOrder, IsAt, with_births}
+use Rattle.nl_types.specs.Blocks.Entries.{Birth, Content}
+use Rattle.nl_types.specs.Blocks.Roots.{Pages, Root, Tree, NoBlocks, OfChain, OfTree, child, height_of, kind_of, pages_of, place_at}
+use Rattle.nl_types.specs.Blocks.RootChanges.{HasTreeShape, InPayloadOrder, IsAt, with_births}
 use Rattle.nl_vstore.specs.Batches.{Changes, CanBeTaken, TakeLowestFree, is_live, last_number}
 use Rattle.nl_vstore.specs.Stores.{Store, content_in}
-use Rattle.nl_blocktree.specs.Private.Edits.{ComesBefore, IsEdited, IsTold, KnowAbove, edited}
+use Rattle.nl_blocktree.specs.Private.Edits.{ComesBefore, IsEdited, AreToldByEdits, KnowAbove, edited}
 use Rattle.nl_blocktree.specs.Numbering.{CanTake, IsUnused}
-use Rattle.nl_blocktree.specs.Private.TreeLevels.{HasKept, IsFull, Levels, kept_in, kept_levels, tree_height}
+use Rattle.nl_blocktree.specs.Private.TreeLevels.{HasKept, HasFullNodes, Levels, kept_in, kept_levels, tree_height}
 use Rattle.nl_blocktree.specs.Private.Writing.{PlaceBecomes}
 use Rattle.nl_blocktree.specs.declared.tree.Edit.{Edit}
 
@@ -32,7 +32,7 @@ pub record CanClimb (store : Store) (root : Root) (below height : ℕ) (edits : 
   pub high : height ≤ 3
   pub whole : tree_height root ≤ height
   pub narrow : All (λ (e : Edit). e.offset < 128 ^ (height - below)) edits
-  pub told : IsTold (pages_of (content_in store)) root below height edits
+  pub told : AreToldByEdits (pages_of (content_in store)) root below height edits
 
 -- ---- level by level
 
@@ -103,7 +103,7 @@ IsClimbed content inode root below edits height top births births' ends ends' =
     Climbs content inode (kept_levels (pages_of content) root) asked below edits first births zs ends →
     IsRenewed content inode (kept_levels (pages_of content) root) (kept_levels (pages_of content) root)
     (place_at (with_births births' (pages_of content)) (Tree height top)) asked first births' zs ends'
-    × IsFull (with_births births' (pages_of content)) height top
+    × HasFullNodes (with_births births' (pages_of content)) height top
 
 -- ---- the top
 
@@ -134,7 +134,7 @@ IsLowered room content begun height top new before after =
     IsRenewed content inode prior old
     (place_at (with_births before.births (pages_of content)) (Tree height top))
     asked first before.births zs before.ends →
-    IsFull (with_births before.births (pages_of content)) height top →
+    HasFullNodes (with_births before.births (pages_of content)) height top →
     IsRenewed content inode prior old (place_at (with_births after.births (pages_of content)) new)
     asked first after.births zs after.ends
     × IsNewTree (with_births after.births (pages_of content)) new × CanBeTaken room content after

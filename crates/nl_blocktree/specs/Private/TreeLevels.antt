@@ -1,8 +1,8 @@
 -- A tree as its levels, and what of a root's levels can be kept.
 use Rattle.std.specs.Prelude.{◌≡◌, ◌<◌, ◌==◌, ◌+◌, ◌*◌, ◌/◌, ◌%◌, ℕ, zero, suc, if◌then◌else◌, List, [], ◌∷◌, IsSome, Option, None, Some}
-use Rattle.nl_types.specs.Entries.{Content}
-use Rattle.nl_types.specs.Roots.{Pages, Root, Empty, Chain, Tree, OfChain, below_top, child, kind_of, numbered, pages_of, place_at}
-use Rattle.nl_types.specs.RootChanges.{IsSound}
+use Rattle.nl_types.specs.Blocks.Entries.{Content}
+use Rattle.nl_types.specs.Blocks.Roots.{Pages, Root, Empty, Chain, Tree, OfChain, below_top, child, kind_of, numbered, pages_of, place_at}
+use Rattle.nl_types.specs.Blocks.RootChanges.{IsSound}
 use Rattle.nl_vstore.specs.Stores.{Store, content_in}
 use Rattle.nl_blocktree.specs.Private.Chains.{raw}
 use Rattle.nl_blocktree.specs.Numbering.{IsLive}
@@ -22,8 +22,8 @@ pub record AreLevels (pages : Pages) (height top : ℕ) (levels : Levels) : Type
       levels level offset ≡ child pages (offset % 128) (levels (suc level) (offset / 128))
 
 -- each node of a tree has a block below it
-abbrev pub IsFull : Pages → (height top : ℕ) → Type 0
-IsFull pages height top =
+abbrev pub HasFullNodes : Pages → (height top : ℕ) → Type 0
+HasFullNodes pages height top =
     (l offset v : ℕ) → l < height → place_at pages (Tree height top) (suc l) offset ≡ Some v →
     (s : ℕ) × (s < 128) × IsSome (place_at pages (Tree height top) l (128 * offset + s))
 

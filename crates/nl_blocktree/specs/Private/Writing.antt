@@ -2,9 +2,9 @@
 use Rattle.std.specs.Prelude.{◌≡◌, ◌≢◌, ◌<◌, ◌+◌, ◌*◌, ◌/◌, ◌%◌, ◌++◌, ℕ, suc, List, [], ◌∷◌, slice_index, IsSome, Option, None, Some}
 use Rattle.std.specs.List.{AllPairs, Contains}
 use Rattle.std.specs.Option.{option_and_then}
-use Rattle.nl_types.specs.Entries.{Birth, Content}
-use Rattle.nl_types.specs.Roots.{Pages, Root, child, numbered, pages_of, slot}
-use Rattle.nl_types.specs.RootChanges.{InPayloadOrder, IsAt}
+use Rattle.nl_types.specs.Blocks.Entries.{Birth, Content}
+use Rattle.nl_types.specs.Blocks.Roots.{Pages, Root, child, numbered, pages_of, slot}
+use Rattle.nl_types.specs.Blocks.RootChanges.{InPayloadOrder, IsAt}
 use Rattle.nl_vstore.specs.Batches.{IsLowestFree, TakeLowestFree}
 use Rattle.nl_blocktree.specs.Changed.{blocks_with, indexes}
 use Rattle.nl_blocktree.specs.Private.Edits.{ComesBefore, IsEdited, edited, top_edits}

@@ -1,7 +1,7 @@
 -- What holds below a number, and tests of options.
 use Rattle.std.proofs.Common.{◌≡◌, ℕ, ◌+◌, ◌<◌, Bool, true, false, Option, Some, None, refl, subst, arith, inl, inr}
 use Rattle.std.specs.Option.{is_some}
-use Rattle.std.specs.Prelude.{◌&&◌, not, IfOk, IfNone, IfSome, Result, Ok, Err}
+use Rattle.std.specs.Prelude.{◌&&◌, not, IfOk, IfSome, OnErr, Result, Ok, Err}
 use Rattle.std.proofs.lemmas.Bool.{cases_lt}
 
 -- what holds below a number and of that number holds below the next one
@@ -49,6 +49,11 @@ pub ok-then : {A E : Type 0} {P : A → Type 0} (r : Result A E) → IfOk r P �
 ok-then (Ok x) p Q f = f x p
 ok-then (Err e) p Q f = tt
 
+-- what holds where a call is refused holds where it doesn't answer
+pub refused-at : {A E : Type 0} (P : Type 0) (r : Result A E) → OnErr r P → ((x : A) → r ≡ Ok x → ⊥) → P
+refused-at P (Ok x) p never = absurd (never x refl)
+refused-at P (Err e) p never = p
+
 -- where the first of two is told, so is whether both hold
 pub both-second : (a b : Bool) → a ≡ true → (a && b) ≡ b
 both-second true b e = refl
@@ -74,7 +79,3 @@ some-both (Some x) p q f = f x p q
 pub found-at : {A : Type 0} (P : A → Type 0) (o : Option A) (x : A) → IfSome o P → o ≡ Some x → P x
 found-at P None x p is = cc
 found-at P (Some y) x p is = let e : y ≡ x = cc in subst P e p
-
-pub missing-at : {A : Type 0} (P : Type 0) (o : Option A) → IfNone o P → o ≡ None → P
-missing-at P None p is = p
-missing-at P (Some x) p is = cc

@@ -1,17 +1,17 @@
 -- Checkpoints that meet the conditions are sound and stand for trees, and the other way round.
-use Rattle.std.proofs.Common.{◌≡◌, ℕ, zero, suc, ◌+◌, ◌*◌, ◌/◌, ◌^◌, ◌<◌, ◌≤◌, Bool, true, false, cond, List, [], ◌∷◌, length, Option, Some, None, refl, ap, sym, subst, ◌∙◌, inl, inr, arith}
+use Rattle.std.proofs.Common.{◌≡◌, ℕ, zero, suc, ◌+◌, ◌*◌, ◌<◌, Bool, true, false, cond, List, [], ◌∷◌, length, Option, Some, None, refl, ap, sym, subst, ◌∙◌, inl, inr, arith}
 use Rattle.std.specs.Prelude.{◌||◌, ◌==◌}
 use Rattle.std.specs.List.{list_any, slice_get}
 use Rattle.std.specs.Option.{is_some, option_and_then, option_map}
 use Rattle.std.proofs.lemmas.Bool.{cases_lt, eqb-true, ne_eqb}
 use Rattle.nl_types.specs.declared.period.Period.{Period}
-use Rattle.nl_types.specs.Entries.{Content, Entry, Place, covers, period_of}
+use Rattle.nl_types.specs.Blocks.Entries.{Content, Entry, Place, covers, period_of}
 use Rattle.nl_types.specs.Inodes.{InodeContent}
 use Rattle.nl_types.specs.InodeLaws.{MeansPaths}
 use Rattle.nl_check.specs.InodeTrees.{FormTree, used_below}
-use Rattle.nl_types.specs.RootChanges.{HasData, IsSound}
-use Rattle.nl_types.specs.Roots.{Chain, Empty, Pages, Root, Tree, kind_of, page_at, pages_of, place_at}
-use Rattle.nl_types.specs.Trees as trees
+use Rattle.nl_types.specs.Blocks.RootChanges.{IsSound}
+use Rattle.nl_types.specs.Blocks.Roots.{Empty, Pages, Root, page_at, pages_of, place_at}
+use Rattle.nl_types.specs.Plain.Trees as trees
 use Rattle.nl_check.specs.Facts.Forming.{formed_trees_are_meant, meant_trees_are_formed}
 use Rattle.nl_types.specs.Facts.Inodes.Means.{inodes_mean_one_tree}
 use Rattle.nl_layout.specs.Root.{root_of}
@@ -27,11 +27,14 @@ use Rattle.nl_check.specs.Facts.Packed.{packed-few}
 use Rattle.nl_files.specs.CheckpointTrees.{HoldsTree}
 use Rattle.nl_tree.specs.Held.{Held, Holding, IsInodeNumber, Listed, Stored, inode_content, inodes_of_holding}
 use Rattle.nl_files.specs.CheckpointRoots.{IsTreeSound, StandsAs, StandsFor, inode_root, roots_at}
+use Rattle.nl_blocktree.specs.Facts.LowOffsets.{low-offsets}
+use Rattle.nl_blocktree.specs.Facts.MetPlaces.{empty-place}
 use Rattle.nl_blocktree.specs.Facts.Staying.{some-of}
 use Rattle.nl_check.specs.Conditions.{has}
 use Rattle.nl_check.specs.Facts.Below.{not-none}
 use Rattle.nl_check.specs.Laws.{ExactPeriodsAreExact, SoundCheckpointsAreShaped, SoundCheckpointsMeetAll, SoundTreesAreMeant, StandsForTree}
-use Rattle.nl_check.specs.Shapes.{At, HasShape, IsShaped, Itself, Of, Owner, met, root_for}
+use Rattle.nl_check.specs.Shapes.{At, IsShaped, Itself, Of, Owner, met, root_for}
+use Rattle.nl_blocktree.specs.FileShapes.{HasShape}
 use Rattle.nl_check.specs.Trees.{IsTreeOf}
 
 any-has : (P : ℕ → Bool) (xs : List ℕ) → list_any P xs ≡ true → (k : ℕ) × (P k ≡ true)
@@ -43,52 +46,9 @@ any-has P (x ∷ xs) h = by (P x) refl h (λ t. any-has P xs t)
     by true e t more = (x, e)
     by false e t more = more t
 
--- ---- offsets
-
 -- an empty root has no block
 empty-nowhere : (pages : Pages) (level offset v : ℕ) → place_at pages Empty level offset ≡ Some v → ⊥
-unfolding place_at
-empty-nowhere pages level offset v h = cc
-
--- and a chain none above its nodes
-chain-nowhere : (pages : Pages) (top level offset v : ℕ)
-    → place_at pages (Chain top) (suc (suc level)) offset ≡ Some v → ⊥
-unfolding place_at
-chain-nowhere pages top level offset v h = cc
-
--- where the data of a file has low indices, so has every block of it
-pub low-offsets : (pages : Pages) (root : Root) → HasShape pages root
-    → ((i v : ℕ) → place_at pages root 0 i ≡ Some v → i < 262144)
-    → (level offset v : ℕ) → place_at pages root level offset ≡ Some v → offset < 262144
-low-offsets pages root shape low zero offset v at = low offset v at
-low-offsets pages root shape low (suc level) offset v at = by root refl
-  where
-    from_data : (i : ℕ) → HasData pages root i → i < 262144
-    from_data i data_is = let v = some-of (place_at pages root 0 i) data_is in low i v.0 v.1
-
-    in_chain : (level : ℕ) (top : ℕ) → root ≡ Chain top → place_at pages root (suc level) offset ≡ Some v
-        → offset < 262144
-    in_chain zero top is h =
-        let d = shape.ends_full (ap kind_of is) offset v h in
-        let high = from_data d.0 d.2 in
-        let below : d.0 / 127 ≤ d.0 = omega arith in
-        omega (arith, d.1, high, below)
-    in_chain (suc level) top is h =
-        absurd (chain-nowhere pages top level offset v
-        (sym (ap (λ (r : Root). place_at pages r (suc (suc level)) offset) is) ∙ h))
-
-    divided : (i n offset : ℕ) → i / n ≡ offset → i < 262144 → offset < 262144
-    divided i n offset e h = let below : i / n ≤ i = omega arith in omega (arith, e, h, below)
-
-    by : (r : Root) → root ≡ r → offset < 262144
-    by Empty is =
-        absurd (empty-nowhere pages (suc level) offset v
-        (sym (ap (λ (r : Root). place_at pages r (suc level) offset) is) ∙ at))
-    by (Chain top) is = in_chain level top is at
-    by (Tree height top) is =
-        let d = (shape.tree_shape (ap kind_of is)).above_data level offset v at in
-        let high = from_data d.0 d.2 in
-        divided d.0 (128 ^ suc level) offset d.1 high
+empty-nowhere pages level offset v h = let none = empty-place pages level offset in cc
 
 -- ---- what inodes in use hold
 
@@ -206,7 +166,7 @@ module _ (pages : Pages) (root : Root) (size inodes : ℕ) (shape : IsShaped pag
   sound-file owner =
       let s = shape.files owner in
       record {
-        in_range = low-offsets pages (root_for pages root owner) s (low-data owner);
+        in_range = low-offsets pages (root_for pages root owner) 262144 s (low-data owner);
         stored = s.stored;
         once = λ p q v a b.
             let e =

@@ -7,8 +7,8 @@ use Rattle.std.proofs.lemmas.List.{reverse-reverse}
 use Rattle.nl_types.specs.declared.reply.Node.{Node}
 use Rattle.nl_types.specs.declared.reply.Node.TheVariants.{Dir, File}
 use Rattle.nl_types.specs.declared.kind.Kind.{Kind}
-use Rattle.nl_types.specs.Paths.{Name, Path, path_cmp, same_path}
-use Rattle.nl_types.specs.Trees.{Tree, lookup, node_kind, in_order}
+use Rattle.nl_types.specs.Plain.Paths.{Name, Path, path_cmp, same_path}
+use Rattle.nl_types.specs.Plain.Trees.{Tree, lookup, node_kind, in_order}
 use Rattle.nl_types.specs.Inodes.{Link, InodeContent, Bytes, Records, Inodes, MeansTree, upward, IsRooted, Pairs, record_of, reached, node_of, found_node, inode_named}
 use Rattle.nl_types.specs.InodeChanges.{HasRecords}
 use Rattle.nl_types.specs.InodeLaws.{MeansPaths}

@@ -1,9 +1,9 @@
 -- A tree beside another file: where it has another number, which numbers are met no more, and which anew.
 use Rattle.std.specs.Prelude.{◌≡◌, ◌⊎◌, ℕ, ◌^◌, ◌<◌, ◌≤◌, Bool, true, false, List, Option, None, Some}
-use Rattle.nl_types.specs.RootChanges.{HasData, places}
-use Rattle.nl_types.specs.Roots.{Empty, Pages, Root, Tree, place_at, slot}
-use Rattle.nl_check.specs.MetFiles.{HasMet, is_met}
-use Rattle.nl_check.specs.Private.TreePlaces.{IsEnd, IsUnder, StandsAboveData}
+use Rattle.nl_types.specs.Blocks.RootChanges.{HasData, places}
+use Rattle.nl_types.specs.Blocks.Roots.{Empty, Pages, Root, Tree, place_at, slot}
+use Rattle.nl_blocktree.specs.TreePlaces.{IsEnd, IsUnder, StandsAboveData}
+use Rattle.nl_blocktree.specs.Walked.{HasMet, is_met}
 use Rattle.nl_check.specs.Private.Turns.{TellsChanges}
 
 -- ---- places

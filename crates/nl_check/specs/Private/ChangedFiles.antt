@@ -1,20 +1,21 @@
 -- The files of a checkpoint beside those of the one before it.
 use Rattle.std.specs.Prelude.{◌≡◌, ◌≢◌, ◌⊎◌, ℕ, ◌+◌, ◌*◌, ◌<◌, Bool, true, false, List, [], ◌∷◌, ◌++◌, length, ◌==◌, if◌then◌else◌, IfSome, Option, Some}
 use Rattle.std.specs.List.{Contains, slice_get}
-use Rattle.nl_types.specs.Limits.{inode_limit}
+use Rattle.nl_types.specs.Plain.Limits.{inode_limit}
 use Rattle.nl_types.specs.declared.kind.Kind.{Kind}
-use Rattle.nl_types.specs.RootChanges.{places}
-use Rattle.nl_types.specs.Roots.{Chain, Empty, OfChain, OfTree, Pages, Root, Tree, height_of, kind_of, place_at}
+use Rattle.nl_types.specs.Blocks.RootChanges.{places}
+use Rattle.nl_types.specs.Blocks.Roots.{Chain, Empty, OfChain, OfTree, Pages, Root, Tree, height_of, kind_of, place_at}
 use Rattle.nl_layout.specs.declared.checkpoint_entry.CheckpointEntry.{CheckpointEntry}
 use Rattle.nl_layout.specs.declared.inode.Inode.{Inode}
 use Rattle.nl_files.specs.CheckpointRoots.{inode_root}
 use Rattle.nl_ifile.specs.Inodes.{block_for, inode_at, inode_in}
-use Rattle.nl_check.specs.MetFiles.{is_met}
-use Rattle.nl_check.specs.Shapes.{At, HasShape, Of, Owner, root_for}
-use Rattle.nl_check.specs.Trees.{IsSizeOf, IsTreeOf}
+use Rattle.nl_blocktree.specs.FileShapes.{HasShape, IsSizeOf}
+use Rattle.nl_blocktree.specs.TreePlaces.{IsUnder}
+use Rattle.nl_blocktree.specs.Walked.{is_met}
+use Rattle.nl_check.specs.Shapes.{At, Of, Owner, root_for}
+use Rattle.nl_check.specs.Trees.{IsTreeOf}
 use Rattle.nl_check.specs.Private.AlikeNames.{AreFiles}
 use Rattle.nl_check.specs.Private.SoundInodes.{IsSoundInode, TellsAll, kind_in, kind_told}
-use Rattle.nl_check.specs.Private.TreePlaces.{IsUnder}
 use Rattle.nl_check.specs.Private.Walks.{IsBlockOf, IsMetWhole}
 use Rattle.nl_check.specs.declared.differing.ChangedFile.{ChangedFile}
 

@@ -1,7 +1,7 @@
 -- How the records of a directory go on from block to block.
 use Rattle.std.specs.Prelude.{◌≡◌, ℕ, ◌+◌, ◌-◌, ◌<◌, List, ◌++◌, length, slice_get, Some}
 use Rattle.std.specs.declared.cmp.Ordering.TheVariants.{Less}
-use Rattle.nl_types.specs.Paths.{name_cmp}
+use Rattle.nl_types.specs.Plain.Paths.{name_cmp}
 use Rattle.nl_dirs.specs.declared.record.Record.{Record}
 use Rattle.nl_dirs.specs.Records.{IsPageOf, size_of, sizes}
 

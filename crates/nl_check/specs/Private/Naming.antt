@@ -1,11 +1,11 @@
 -- How far the names of a tree were followed from the root.
 use Rattle.std.specs.Prelude.{◌≡◌, ◌≢◌, ◌⊎◌, ℕ, ◌+◌, ◌*◌, ◌<◌, ◌≤◌, cond, List, [], ◌∷◌, ◌++◌, length, slice_get, slice_set, is_some, Option, None, Some}
 use Rattle.std.specs.Option.{option_map}
-use Rattle.nl_types.specs.Limits.{inode_limit, root_inode}
+use Rattle.nl_types.specs.Plain.Limits.{inode_limit, root_inode}
 use Rattle.nl_types.specs.declared.kind.Kind.{Kind}
 use Rattle.nl_types.specs.declared.kind.Kind.TheVariants as kind
 use Rattle.nl_types.specs.Inodes.{reached}
-use Rattle.nl_types.specs.Paths.{Path}
+use Rattle.nl_types.specs.Plain.Paths.{Path}
 use Rattle.nl_dirs.specs.declared.record.Record.{Record}
 use Rattle.nl_tree.specs.Held.{Held, Holding, Listed, Stored, inodes_of_holding}
 use Rattle.nl_check.specs.Private.SoundInodes.{kind_in}

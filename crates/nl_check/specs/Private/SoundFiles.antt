@@ -1,9 +1,9 @@
 -- What the blocks of a file or a directory may be.
 use Rattle.std.specs.Prelude.{◌≡◌, ℕ, ◌*◌, ◌≤◌, IsTrue, List, length, None}
 use Rattle.std.specs.List.{All}
-use Rattle.nl_types.specs.Limits.{file_limit, path_limit}
-use Rattle.nl_types.specs.Paths.{is_name}
-use Rattle.nl_types.specs.Roots.{Blocks}
+use Rattle.nl_types.specs.Plain.Limits.{file_limit, path_limit}
+use Rattle.nl_types.specs.Plain.Paths.{is_name}
+use Rattle.nl_types.specs.Blocks.Roots.{Blocks}
 use Rattle.nl_dirs.specs.declared.record.Record.{Record}
 use Rattle.nl_dirs.specs.Listings.{HoldsRecords}
 use Rattle.nl_tree.specs.Held.{IsInodeNumber, byte_stored}

@@ -1,17 +1,17 @@
 -- What is known of the inodes of a checkpoint, each by itself.
 use Rattle.std.specs.Prelude.{◌≡◌, ℕ, ◌*◌, ◌<◌, ◌≤◌, Bool, true, false, List, length, slice_index_or, Option, None, Some}
-use Rattle.nl_types.specs.Limits.{inode_limit}
+use Rattle.nl_types.specs.Plain.Limits.{inode_limit}
 use Rattle.nl_types.specs.declared.kind.Kind.{Kind}
 use Rattle.nl_types.specs.declared.kind.Kind.TheVariants as kind
-use Rattle.nl_types.specs.RootChanges.{HasData}
-use Rattle.nl_types.specs.Roots.{Pages, Root, page_at}
+use Rattle.nl_types.specs.Blocks.RootChanges.{HasData}
+use Rattle.nl_types.specs.Blocks.Roots.{Pages, Root, page_at}
 use Rattle.nl_layout.specs.declared.inode.Inode.{Inode}
 use Rattle.nl_layout.specs.declared.inode.InodeKind.{InodeKind}
 use Rattle.nl_layout.specs.declared.inode.InodeKind.TheVariants.{File, Directory, InodeFile}
 use Rattle.nl_files.specs.CheckpointRoots.{StandsFor}
 use Rattle.nl_ifile.specs.Inodes.{inode_at}
 use Rattle.nl_tree.specs.Held.{Holding, IsHolding}
-use Rattle.nl_check.specs.Trees.{IsSizeOf}
+use Rattle.nl_blocktree.specs.FileShapes.{IsSizeOf}
 
 -- what an inode is for, where it is for a file or a directory
 abbrev pub kind_for : InodeKind → Option Kind

@@ -5,7 +5,7 @@ use Rattle.std.specs.List.Sorted.{IsNonDecreasingBy}
 use Rattle.std.specs.Option.{option_to_list}
 use Rattle.nl_types.specs.declared.period.Period.{Period}
 use Rattle.nl_vstore.specs.Periods.{Periods}
-use Rattle.nl_check.specs.MetFiles.{is_met}
+use Rattle.nl_blocktree.specs.Walked.{is_met}
 use Rattle.nl_check.specs.Periods.{AreOfPeriods, has_in}
 use Rattle.nl_check.specs.declared.turns.Turn.{Turn}
 

@@ -1,14 +1,14 @@
 -- How far the files of a checkpoint were walked.
 use Rattle.std.specs.Prelude.{◌≡◌, ℕ, ◌*◌, ◌<◌, Bool, true, List, length, Option, Some}
 use Rattle.nl_types.specs.declared.kind.Kind.{Kind}
-use Rattle.nl_types.specs.Roots.{Pages, Root, page_at}
+use Rattle.nl_types.specs.Blocks.Roots.{Pages, Root, page_at}
 use Rattle.nl_ifile.specs.Inodes.{block_for, in_block, inode_at}
 use Rattle.nl_check.specs.Conditions.{IsSoundTree, Told}
-use Rattle.nl_check.specs.MetFiles.{is_met}
+use Rattle.nl_blocktree.specs.FileShapes.{HasShape, IsSizeOf}
+use Rattle.nl_blocktree.specs.Walked.{is_met}
 use Rattle.nl_check.specs.Periods.{AreMetIn}
-use Rattle.nl_check.specs.Shapes.{At, HasShape, IsShaped, Itself, Of, Owner, met, root_for}
+use Rattle.nl_check.specs.Shapes.{At, IsShaped, Itself, Of, Owner, met, root_for}
 use Rattle.nl_check.specs.Private.SoundInodes.{TellsAll, TellsInodes}
-use Rattle.nl_check.specs.Trees.{IsSizeOf}
 use Rattle.nl_check.specs.declared.shape.Walk.{Walk}
 
 -- the file of inodes comes first, and then the files of the inodes by their numbers

@@ -11,8 +11,8 @@ use Rattle.nl_types.specs.declared.event.Event.TheVariants.{Move, Retire}
 use Rattle.nl_types.specs.declared.reply.Answer.{Answer}
 use Rattle.nl_types.specs.declared.segment.SegmentInfo.{SegmentInfo}
 use Rattle.nl_types.specs.declared.segment.SegmentState.TheVariants.{Active, Clean, Dirty, Error}
-use Rattle.nl_types.specs.Segments.{IsClosed, Segments, clean_info, is_closed}
-use Rattle.nl_types.specs.Worlds.{Reply}
+use Rattle.nl_types.specs.Blocks.Segments.{IsClosed, Segments, clean_info, is_closed}
+use Rattle.nl_types.specs.Plain.Worlds.{Reply}
 use Rattle.nl_vstore.specs.Located.{needed_at, needed_count, onto, picked}
 use Rattle.nl_reclaim.specs.Cleaning.{judged_segment, judged_by, judged_info}
 use Rattle.nl_reclaim.specs.Moves.{needed_now}
@@ -21,9 +21,8 @@ use Rattle.nl_events.specs.CleanedPens.{kept_store}
 use Rattle.nl_commit.specs.CleanerViews.{cleaning_event}
 use Rattle.nl_commit.specs.CleaningEvents.{needed_by}
 use Rattle.nl_commit.specs.Layout.{AllowedBetween, Does, IsPen, Layout, layout_of}
-use Rattle.nl_commit.specs.Rounds.{RoundsEnd}
 use Rattle.nl_commit.specs.Volume.{without_mount}
-use Rattle.nl_protect.specs.Rounds.{ends_round}
+use Rattle.nl_rounds.specs.Rounds.{RoundsEnd, ends_round}
 use Rattle.nl_cleaner.specs.Job.{Cleaning, Ended, Expiring, JobView, SteppedBy, job_after_answer, at_stage, cleaning_left, first_done, left_by, next_by, next_cleaning, next_event, job_after_reply, noted_by, steps_left}
 use Rattle.nl_cleaner.specs.declared.job.Stage.{Stage}
 use Rattle.nl_cleaner.specs.Laws.{StepsEndRounds, UnmountsLeaveRounds}

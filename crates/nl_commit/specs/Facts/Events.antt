@@ -18,13 +18,13 @@ use Rattle.nl_types.specs.declared.event.Mode.{Mode}
 use Rattle.nl_types.specs.declared.event.Mode.TheVariants.{Plain, Snapshot}
 use Rattle.nl_types.specs.declared.reply.Answer.{Answer}
 use Rattle.nl_types.specs.declared.reply.Answer.TheVariants as answer
-use Rattle.nl_types.specs.Limits.{mount_number_limit}
-use Rattle.nl_types.specs.Trees.{Tree}
-use Rattle.nl_types.specs.Calls.{IsReadReply, IsUnlessMemory, ReadTakesMemory, and_then, change, reply_to, is_dirtying, Changed}
-use Rattle.nl_types.specs.Worlds.{World, Copy, Reply, Outcome, IsWorld, step, either, refused_if, copy_at, mount_read}
-use Rattle.nl_types.specs.Rows.{is_snapshot}
-use Rattle.nl_types.specs.Runs.{TakesMemory, memory_alone}
-use Rattle.nl_types.specs.Roots.{Pages}
+use Rattle.nl_types.specs.Plain.Limits.{mount_number_limit}
+use Rattle.nl_types.specs.Plain.Trees.{Tree}
+use Rattle.nl_types.specs.Plain.Calls.{IsReadReply, IsUnlessMemory, ReadTakesMemory, and_then, change, reply_to, is_dirtying, Changed}
+use Rattle.nl_types.specs.Plain.Worlds.{World, Copy, Reply, Outcome, IsWorld, step, either, refused_if, copy_at, mount_read}
+use Rattle.nl_types.specs.Plain.Rows.{is_snapshot}
+use Rattle.nl_types.specs.Plain.Runs.{TakesMemory, memory_alone}
+use Rattle.nl_types.specs.Blocks.Roots.{Pages}
 use Rattle.nl_types.specs.Facts.WorldLaws.{steps_keep_worlds}
 use Rattle.nl_layout.specs.Root.{root_of}
 use Rattle.nl_tree.specs.Became.{Current}

@@ -9,9 +9,9 @@ use Rattle.nl_types.specs.declared.error.VolError.TheVariants as error
 use Rattle.nl_types.specs.declared.event.Event.TheVariants as event
 use Rattle.nl_types.specs.declared.reply.Answer.{Answer}
 use Rattle.nl_types.specs.declared.reply.Answer.TheVariants as answer
-use Rattle.nl_types.specs.Limits.{mount_number_limit}
-use Rattle.nl_types.specs.Rows.{is_snapshot}
-use Rattle.nl_types.specs.Worlds.{Copy, Outcome, Reply, World, either, kept_copy, mounts_without, refused_if}
+use Rattle.nl_types.specs.Plain.Limits.{mount_number_limit}
+use Rattle.nl_types.specs.Plain.Rows.{is_snapshot}
+use Rattle.nl_types.specs.Plain.Worlds.{Copy, Outcome, Reply, World, either, kept_copy, mounts_without, refused_if}
 use Rattle.nl_commit.specs.Layout.{AllowedBetween, Does, IsPen, Layout, cleaned, layout_pages}
 use Rattle.nl_commit.specs.Means.{StepsWorld}
 use Rattle.nl_commit.specs.Notes.{shown_of}

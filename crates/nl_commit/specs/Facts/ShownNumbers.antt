@@ -5,11 +5,11 @@ use Rattle.std.proofs.lemmas.Bool.{cases_eq, eq-eqb, ne_eqb}
 use Rattle.std.proofs.lemmas.List.{ext_get_or, get_or-set_other, get_or-set_same, length-map, length-set}
 use Rattle.std.specs.Option.{option_map}
 use Rattle.std.specs.Prelude.{◌||◌}
-use Rattle.nl_types.specs.Entries.{Birth, Content, Entry, born_at, number_of, period_of}
-use Rattle.nl_types.specs.Entries as entries
-use Rattle.nl_types.specs.NumberLists.{is_one_of}
-use Rattle.nl_types.specs.PartialMaps.{adjust, adjust_all, put, put_all}
-use Rattle.nl_types.specs.Segments.{clean_info, total_blocks}
+use Rattle.nl_types.specs.Blocks.Entries.{Birth, Content, Entry, born_at, number_of, period_of}
+use Rattle.nl_types.specs.Blocks.Entries as entries
+use Rattle.nl_types.specs.Plain.NumberLists.{is_one_of}
+use Rattle.nl_types.specs.Blocks.PartialMaps.{adjust, adjust_all, put, put_all}
+use Rattle.nl_types.specs.Blocks.Segments.{clean_info, total_blocks}
 use Rattle.nl_vstore.specs.Stores.{IsMoved, IsReclaimed, IsStore, IsWritten, Numbered, Store, address_in, content_in, entry_now, is_inside, numbered_in}
 use Rattle.nl_vstore.specs.Batches.{Changes}
 use Rattle.nl_dat.specs.Facts.BlockCounts.{total-with_logs}

@@ -6,13 +6,13 @@ use Rattle.nl_types.specs.declared.error.VolError.TheVariants.{NotFound}
 use Rattle.nl_types.specs.declared.kind.Kind.TheVariants as kind
 use Rattle.nl_types.specs.declared.reply.Node.{Node}
 use Rattle.nl_types.specs.declared.reply.Node.TheVariants.{File}
-use Rattle.nl_types.specs.Calls.{and_then, node_at, walk}
+use Rattle.nl_types.specs.Plain.Calls.{and_then, node_at, walk}
 use Rattle.nl_types.specs.Inodes.{Bytes, InodeContent, Link, node_of}
-use Rattle.nl_types.specs.Paths.{Path}
+use Rattle.nl_types.specs.Plain.Paths.{Path}
 use Rattle.nl_types.specs.Resolving.{node_in, resolve}
-use Rattle.nl_types.specs.Roots.{Blocks, Pages, Root, page_at}
-use Rattle.nl_types.specs.Trees.{Tree, lookup}
-use Rattle.nl_types.specs.Worlds.{World}
+use Rattle.nl_types.specs.Blocks.Roots.{Blocks, Pages, Root, page_at}
+use Rattle.nl_types.specs.Plain.Trees.{Tree, lookup}
+use Rattle.nl_types.specs.Plain.Worlds.{World}
 use Rattle.nl_types.specs.Facts.Inodes.Resolving.{files_hold_bytes, nodes_by_inodes}
 use Rattle.nl_layout.specs.Root.{root_of}
 use Rattle.nl_layout.specs.declared.inode.Inode.{Inode}

@@ -4,8 +4,8 @@ use Rattle.std.specs.Prelude.{map}
 use Rattle.std.proofs.lemmas.Bool.{cond-false, cond-true}
 use Rattle.nl_types.specs.declared.event.Event.TheVariants.{Move}
 use Rattle.nl_types.specs.declared.reply.Answer.{Answer}
-use Rattle.nl_types.specs.Entries.{is_needed}
-use Rattle.nl_types.specs.Worlds.{is_moving}
+use Rattle.nl_types.specs.Blocks.Entries.{is_needed}
+use Rattle.nl_types.specs.Plain.Worlds.{is_moving}
 use Rattle.nl_types.specs.Facts.Needs.{checkpoints-keep}
 use Rattle.nl_vstore.specs.Stores.{content_in}
 use Rattle.nl_reclaim.specs.Moves.{KeepsNeeds}

@@ -1,14 +1,14 @@
 -- What a refused event leaves, and when space is the reason.
-use Rattle.std.proofs.Common.{◌≡◌, ◌≢◌, ℕ, ◌+◌, refl, subst, inl, inr, sym, ap, take, ◌∙◌}
+use Rattle.std.proofs.Common.{◌≡◌, ◌≢◌, ℕ, ◌+◌, refl, subst, inl, inr, sym, take, ◌∙◌}
 use Rattle.std.specs.Prelude.{true, length, List, ◌++◌, ◌∷◌, Result, Ok, Err, IfErr, MatchResult}
 use Rattle.nl_types.specs.declared.error.VolError.{VolError}
 use Rattle.nl_types.specs.declared.error.VolError.TheVariants as error
 use Rattle.nl_types.specs.declared.event.Event.{Event}
 use Rattle.nl_types.specs.declared.event.Event.TheVariants.{Checkpoint, Move, Resize, Retire}
 use Rattle.nl_types.specs.declared.segment.Log.{Log}
-use Rattle.nl_types.specs.Laws.{IsJudged}
-use Rattle.nl_types.specs.Placing.{LogsFit}
-use Rattle.nl_types.specs.Worlds.{Outcome}
+use Rattle.nl_types.specs.Plain.Laws.{IsJudged}
+use Rattle.nl_types.specs.Blocks.Placing.{LogsFit}
+use Rattle.nl_types.specs.Plain.Worlds.{Outcome}
 use Rattle.nl_types.specs.Facts.WorldJudgements.{steps_judge}
 use Rattle.nl_types.specs.declared.segment.SegmentInfo.{SegmentInfo}
 use Rattle.nl_vstore.specs.Batches.{items_of}

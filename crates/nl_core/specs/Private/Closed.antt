@@ -1,12 +1,12 @@
 -- What the image of a pen needs of its checkpoints.
 use Rattle.std.specs.Prelude.{List, All}
 use Rattle.std.specs.List.{AllZip}
-use Rattle.nl_types.specs.Roots.{Pages}
+use Rattle.nl_types.specs.Blocks.Roots.{Pages}
 use Rattle.nl_layout.specs.Root.{root_of}
 use Rattle.nl_layout.specs.declared.checkpoint_entry.CheckpointEntry.{CheckpointEntry}
 use Rattle.nl_cpfile.specs.Tables.{checkpoint_root}
 use Rattle.nl_cpfile.specs.declared.checkpoint.Checkpoint.{Checkpoint}
-use Rattle.nl_check.specs.Shapes.{StandsAlone}
+use Rattle.nl_blocktree.specs.FileShapes.{StandsAlone}
 use Rattle.nl_image.specs.StoreImages.{IsSizedEntry}
 
 -- the file of inodes has its shape, and no number at two places, so that it has a size

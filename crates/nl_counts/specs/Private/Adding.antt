@@ -1,7 +1,7 @@
 -- Counts while numbers get their blocks, one after another.
 use Rattle.std.specs.Prelude.{◌≡◌, ℕ, ◌<◌, true, if◌then◌else◌, List, length, None, Some}
-use Rattle.nl_types.specs.NumberLists.{NoneTwice, is_one_of}
-use Rattle.nl_types.specs.PartialMaps.{Partial}
+use Rattle.nl_types.specs.Plain.NumberLists.{NoneTwice, is_one_of}
+use Rattle.nl_types.specs.Blocks.PartialMaps.{Partial}
 use Rattle.nl_vstore.specs.Stores.{Store, address_in, is_inside}
 
 -- the new blocks of the numbers that are done, and the old ones of all others

@@ -1,6 +1,6 @@
 -- Counts while the list of ends is gone over.
 use Rattle.std.specs.Prelude.{◌≡◌, ◌≢◌, ◌⊎◌, ℕ, ◌<◌, ◌≤◌, ◌||◌, Bool, true, false, if◌then◌else◌, List, [], ◌∷◌, length, nat_eq, Option, None, Some}
-use Rattle.nl_types.specs.PartialMaps.{Partial}
+use Rattle.nl_types.specs.Blocks.PartialMaps.{Partial}
 use Rattle.nl_vstore.specs.Batches.{is_live}
 use Rattle.nl_sufile.specs.BySegment.{one_less}
 use Rattle.nl_vstore.specs.Stores.{Store, address_in, content_in, is_inside}

@@ -1,6 +1,6 @@
 -- Counts by segment over a store.
 use Rattle.std.specs.Prelude.{◌≡◌, ℕ, ◌+◌, ◌^◌, ◌<◌, List, length, slice_index_or, Option, None, Some}
-use Rattle.nl_types.specs.PartialMaps.{Partial}
+use Rattle.nl_types.specs.Blocks.PartialMaps.{Partial}
 use Rattle.nl_sufile.specs.BySegment.{AreCounts, one_more}
 use Rattle.nl_vstore.specs.Counts.{IsSegmentOf}
 use Rattle.nl_vstore.specs.Stores.{Store, capacity}

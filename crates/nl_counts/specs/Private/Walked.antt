@@ -1,7 +1,7 @@
 -- Counts and ends while all numbers are gone over.
 use Rattle.std.specs.Prelude.{◌≡◌, ℕ, ◌<◌, ◌≤◌, nat_le, Bool, if◌then◌else◌, List, length, Option, None, Some}
-use Rattle.nl_types.specs.PartialMaps.{Partial}
-use Rattle.nl_types.specs.Entries.{Content, Entry}
+use Rattle.nl_types.specs.Blocks.PartialMaps.{Partial}
+use Rattle.nl_types.specs.Blocks.Entries.{Content, Entry}
 use Rattle.nl_vstore.specs.Counts.{needed_places}
 use Rattle.nl_vstore.specs.Stores.{Store, content_in}
 use Rattle.nl_counts.specs.declared.ends.Ended.{Ended}

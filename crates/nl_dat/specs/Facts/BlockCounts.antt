@@ -2,8 +2,8 @@
 use Rattle.std.proofs.Common.{◌≡◌, ℕ, ◌*◌, List, [], ◌∷◌, refl, ap, ◌∙◌}
 use Rattle.std.proofs.lemmas.List.{length-map, length-set}
 use Rattle.nl_types.specs.declared.segment.Log.{Log}
-use Rattle.nl_types.specs.Segments.{Segments, at_rest, none_active, total_blocks, with_error}
-use Rattle.nl_types.specs.Placing.{with_log, with_logs}
+use Rattle.nl_types.specs.Blocks.Segments.{Segments, at_rest, none_active, total_blocks, with_error}
+use Rattle.nl_types.specs.Blocks.Placing.{with_log, with_logs}
 use Rattle.nl_types.specs.Facts.NextLogs.{length-with_log}
 
 pub total-with_logs : (s : Segments) (logs : List Log) (stamp : ℕ)

@@ -5,7 +5,7 @@ use Rattle.std.specs.Option.{IfSome, option_map}
 use Rattle.std.proofs.lemmas.Bool.{cases_lt}
 use Rattle.std.proofs.lemmas.List.{get_or_past, take_more}
 use Rattle.std.proofs.lemmas.List.Elements.{All-from_get_or}
-use Rattle.nl_types.specs.Segments.{Segments, IsUsed, total_blocks}
+use Rattle.nl_types.specs.Blocks.Segments.{Segments, IsUsed, total_blocks}
 use Rattle.nl_types.specs.Facts.EqualPieces.{HaveWidth, piece_at}
 use Rattle.nl_types.specs.Facts.UsedParts.{used_inside}
 use Rattle.nl_sufile.specs.Table.{IsSegTable}

@@ -6,16 +6,16 @@ use Rattle.std.proofs.Math.Nat.{mul-le-mul_right}
 use Rattle.std.proofs.lemmas.Bool.{cases_eq, cases_lt}
 use Rattle.std.proofs.lemmas.List.{get_or_past}
 use Rattle.std.proofs.lemmas.Option.{get_or_from_slice_get}
-use Rattle.nl_types.specs.Segments.{Segments, AreTidy, IsUsed, info_of}
+use Rattle.nl_types.specs.Blocks.Segments.{Segments, AreTidy, IsUsed, info_of}
 use Rattle.nl_types.specs.Facts.SegmentChanges.{room_of}
-use Rattle.nl_types.specs.Entries.{number_of}
+use Rattle.nl_types.specs.Blocks.Entries.{number_of}
 use Rattle.nl_device.specs.Failures.{Failures}
 use Rattle.nl_space.specs.Content.{Payload, SpaceContent, HoldsOnlyUsed, payload_tag}
 use Rattle.nl_dat.specs.declared.entries.DatEntry.{DatEntry}
 use Rattle.nl_vstore.specs.Batches.{birth_of_item, number_of_payload}
 use Rattle.nl_dat.specs.Table.{entry_in, addresses_of}
 use Rattle.nl_vstore.specs.Stores.{tag_in}
-use Rattle.nl_dat.specs.Inside.{store_of, IsTable}
+use Rattle.nl_dat.specs.Inside.{store_of, IsDatTable}
 use Rattle.nl_dat.specs.Facts.ShownSpace.{shown}
 
 -- a used block of a segment lies in its used part
@@ -45,7 +45,7 @@ position-used s segment position b tidy (place, at, used) is within =
 
 -- only the number that a block's payload was written for may have it
 pub tagged_with : (table : List (Option DatEntry)) (lowest : ℕ) (space : SpaceContent) (v b : ℕ)
-    → IsTable table lowest space → addresses_of (entry_in table) v ≡ Some b
+    → IsDatTable table lowest space → addresses_of (entry_in table) v ≡ Some b
     → (payload : Payload) × (space.held b ≡ Some payload) × (payload.0.number ≡ v)
 tagged_with table lowest space v b is_table at = named (space.held b) refl (is_table.sound v b at)
   where
@@ -67,7 +67,7 @@ held-row row space segment position each within =
 -- so a row tells which number may have a block
 pub tagged-row : (table : List (Option DatEntry)) (lowest : ℕ) (space : SpaceContent)
     (row : List (Option Payload)) (segment position v : ℕ)
-    → AreTidy space.segments → IsTable table lowest space
+    → AreTidy space.segments → IsDatTable table lowest space
     → length row ≡ (info_of space.segments.each segment).used
     → ((k : ℕ) → k < length row → slice_get row k ≡ Some (space.held (segment * space.segments.blocks + k)))
     → position < space.segments.blocks

@@ -6,11 +6,11 @@ use Rattle.std.proofs.lemmas.Bool.{cases_lt}
 use Rattle.std.proofs.lemmas.List.{get_or_past, length-take}
 use Rattle.std.proofs.lemmas.List.FromFn.{get_or-map-range_with_len, length-map-range_with_len}
 use Rattle.nl_types.specs.declared.segment.Log.{Log}
-use Rattle.nl_types.specs.Segments.{Segments, AreTidy, total_blocks}
-use Rattle.nl_types.specs.Placing.{first_block, with_logs}
+use Rattle.nl_types.specs.Blocks.Segments.{Segments, AreTidy, total_blocks}
+use Rattle.nl_types.specs.Blocks.Placing.{first_block, with_logs}
 use Rattle.nl_types.specs.Facts.NextLogs.{placed}
 use Rattle.nl_types.specs.Facts.UsedParts.{used_inside}
-use Rattle.nl_types.specs.PartialMaps.{Stands}
+use Rattle.nl_types.specs.Blocks.PartialMaps.{Stands}
 use Rattle.nl_device.specs.Failures.{Failures}
 use Rattle.nl_space.specs.Content.{SpaceContent, Payload, IsSameAt, IsFreed, KeepsUsed, HoldsOnlyUsed, payload_page}
 use Rattle.nl_space.specs.Logs.{AreWholeLogs}

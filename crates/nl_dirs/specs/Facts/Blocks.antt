@@ -6,7 +6,7 @@ use Rattle.std.specs.List.{All, flat_map, slice_get}
 use Rattle.std.specs.declared.cmp.Ordering.TheVariants.{Less}
 use Rattle.std.proofs.lemmas.List.{append-nil}
 use Rattle.std.proofs.lemmas.List.Elements.{All-head, All-tail, All-weaker, All-cons, All-nil}
-use Rattle.nl_types.specs.Paths.{Name, name_cmp}
+use Rattle.nl_types.specs.Plain.Paths.{Name, name_cmp}
 use Rattle.nl_dirs.specs.declared.record.Record.{Record}
 use Rattle.nl_dirs.specs.Records.{AllHaveSpelling, NamesAscend, HoldsList, RecordHasSpelling, entry_of, packed_block, size_of, sizes}
 use Rattle.nl_dirs.specs.Packing.{IsPacked, no_blocks, last_block, full_block}

@@ -14,15 +14,15 @@ use Rattle.nl_types.specs.declared.reply.Answer.TheVariants as answer
 use Rattle.nl_types.specs.declared.row.ListOptions.{ListOptions}
 use Rattle.nl_types.specs.declared.row.Range.{Range}
 use Rattle.nl_types.specs.declared.row.Row.{Row}
-use Rattle.nl_types.specs.Calls.{IsUnlessMemory, and_then, ok_unless}
-use Rattle.nl_types.specs.CheckpointLaws.{removed_by}
-use Rattle.nl_types.specs.Protection.{boundary}
-use Rattle.nl_types.specs.Roots.{Pages}
-use Rattle.nl_types.specs.Rows as told
-use Rattle.nl_types.specs.NumberLists.{is_one_of}
-use Rattle.nl_types.specs.Rows.{is_snapshot, kept_row, may_go, mode_change, number_of, range_removal, reason_to_stay, removable, removal}
-use Rattle.nl_types.specs.Worlds as worlds
-use Rattle.nl_types.specs.Worlds.{Copy, Outcome, Reply, World, copies_with_mode, copies_without, either, expiry_of, is_given_up, is_mounted, latest, mounts_without, refused_if, take_out}
+use Rattle.nl_types.specs.Plain.Calls.{IsUnlessMemory, and_then, ok_unless}
+use Rattle.nl_types.specs.Plain.CheckpointLaws.{removed_by}
+use Rattle.nl_types.specs.Plain.Protection.{boundary}
+use Rattle.nl_types.specs.Blocks.Roots.{Pages}
+use Rattle.nl_types.specs.Plain.Rows as told
+use Rattle.nl_types.specs.Plain.NumberLists.{is_one_of}
+use Rattle.nl_types.specs.Plain.Rows.{is_snapshot, kept_row, may_go, mode_change, number_of, range_removal, reason_to_stay, removable, removal}
+use Rattle.nl_types.specs.Plain.Worlds as worlds
+use Rattle.nl_types.specs.Plain.Worlds.{Copy, Outcome, Reply, World, copies_with_mode, copies_without, either, expiry_of, is_given_up, is_mounted, latest, mounts_without, refused_if, take_out}
 use Rattle.nl_layout.specs.declared.root.Root.{Root}
 use Rattle.nl_cpfile.specs.Tables as tables
 use Rattle.nl_cpfile.specs.Tables.{moded, checkpoint_root, rows_of}

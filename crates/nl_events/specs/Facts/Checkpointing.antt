@@ -10,12 +10,12 @@ use Rattle.nl_types.specs.declared.error.VolError.TheVariants as error
 use Rattle.nl_types.specs.declared.event.Event.TheVariants as event
 use Rattle.nl_types.specs.declared.event.Mode.{Mode}
 use Rattle.nl_types.specs.declared.reply.Answer.TheVariants as answer
-use Rattle.nl_types.specs.Entries.{Content}
-use Rattle.nl_types.specs.Lifetimes.{IsLedger}
-use Rattle.nl_types.specs.Limits.{checkpoint_number_limit}
-use Rattle.nl_types.specs.Roots.{Pages, pages_of}
-use Rattle.nl_types.specs.Worlds.{World, Reply, step, latest}
-use Rattle.nl_types.specs.Placing as placing
+use Rattle.nl_types.specs.Blocks.Entries.{Content}
+use Rattle.nl_types.specs.Blocks.Lifetimes.{IsLedger}
+use Rattle.nl_types.specs.Plain.Limits.{checkpoint_number_limit}
+use Rattle.nl_types.specs.Blocks.Roots.{Pages, pages_of}
+use Rattle.nl_types.specs.Plain.Worlds.{World, Reply, step, latest}
+use Rattle.nl_types.specs.Blocks.Placing as placing
 use Rattle.nl_types.specs.Facts.WorldLaws.{steps_keep_worlds}
 use Rattle.nl_layout.specs.Root.{root_of}
 use Rattle.nl_vstore.specs.Batches.{items_of}

@@ -7,13 +7,13 @@ use Rattle.std.specs.FinMap.{find}
 use Rattle.std.proofs.lemmas.Bool.{cases_Bool, cond-false, cond-true, eq-eqb, eqb-true, ne_eqb}
 use Rattle.std.proofs.lemmas.List.Elements.{All-push, All-weaker}
 use Rattle.nl_types.specs.declared.event.Mode.{Mode}
-use Rattle.nl_types.specs.Entries.{written}
-use Rattle.nl_types.specs.Lifetimes.{Allowed, EndsOnce, IsLedger, KeepsCovered, Ledger, Makes, numbers_at}
-use Rattle.nl_types.specs.Limits.{checkpoint_number_limit}
-use Rattle.nl_types.specs.PartialMaps.{Keeps}
-use Rattle.nl_types.specs.RootChanges.{with_births}
-use Rattle.nl_types.specs.Roots.{Pages, Root, pages_of}
-use Rattle.nl_types.specs.Trees.{Tree}
+use Rattle.nl_types.specs.Blocks.Entries.{written}
+use Rattle.nl_types.specs.Blocks.Lifetimes.{Allowed, EndsOnce, IsLedger, KeepsCovered, Ledger, Makes, numbers_at}
+use Rattle.nl_types.specs.Plain.Limits.{checkpoint_number_limit}
+use Rattle.nl_types.specs.Blocks.PartialMaps.{Keeps}
+use Rattle.nl_types.specs.Blocks.RootChanges.{with_births}
+use Rattle.nl_types.specs.Blocks.Roots.{Pages, Root, pages_of}
+use Rattle.nl_types.specs.Plain.Trees.{Tree}
 use Rattle.nl_types.specs.Facts.Births.{pages-written}
 use Rattle.nl_types.specs.Facts.ExactLifetimes.{covered_kept_all, ends_once}
 use Rattle.nl_layout.specs.Root.{root_of}

@@ -7,10 +7,10 @@ use Rattle.std.proofs.lemmas.Bool.{both_ways, cases_Bool}
 use Rattle.std.proofs.lemmas.List.Elements.{All-weaker}
 use Rattle.nl_types.specs.declared.error.VolError.{VolError}
 use Rattle.nl_types.specs.declared.error.VolError.TheVariants.{Fault, Memory, NoSpace}
-use Rattle.nl_types.specs.Entries.{Content, Entry, covers}
-use Rattle.nl_types.specs.Lifetimes.{Allowed, EndsOnce, IsLedger, KeepsCovered, Ledger, Frees, ledger_after}
-use Rattle.nl_types.specs.Roots.{pages_of}
-use Rattle.nl_types.specs.Worlds.{World, Copy}
+use Rattle.nl_types.specs.Blocks.Entries.{Content, Entry, covers}
+use Rattle.nl_types.specs.Blocks.Lifetimes.{Allowed, EndsOnce, IsLedger, KeepsCovered, Ledger, Frees, ledger_after}
+use Rattle.nl_types.specs.Blocks.Roots.{pages_of}
+use Rattle.nl_types.specs.Plain.Worlds.{World, Copy}
 use Rattle.nl_types.specs.Facts.ExactLifetimes.{covered_kept_all, ends_once, ledger_after-IsLedger}
 use Rattle.nl_layout.specs.Root.{root_of}
 use Rattle.nl_vstore.specs.Stores.{IsMoveRefused, IsReclaimed, IsStore, Numbered, Store, content_in, entry_now}

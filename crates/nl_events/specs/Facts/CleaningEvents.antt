@@ -12,14 +12,14 @@ use Rattle.nl_types.specs.declared.reply.Answer.{Answer}
 use Rattle.nl_types.specs.declared.reply.Answer.TheVariants as answer
 use Rattle.nl_types.specs.declared.segment.SegmentInfo.{SegmentInfo}
 use Rattle.nl_types.specs.declared.segment.SegmentState.TheVariants.{Active, Clean, Dirty, Error}
-use Rattle.nl_types.specs.Calls.{and_then}
-use Rattle.nl_types.specs.Laws.{IsJudged}
-use Rattle.nl_types.specs.Placing.{LacksSpace, LogsFit}
-use Rattle.nl_types.specs.Lifetimes.{EndsOnce, KeepsCovered, Ledger}
-use Rattle.nl_types.specs.Limits.{checkpoint_number_limit, is_geometry}
-use Rattle.nl_types.specs.Segments.{Segments}
-use Rattle.nl_types.specs.Worlds as worlds
-use Rattle.nl_types.specs.Worlds.{Outcome, Reply, World, latest}
+use Rattle.nl_types.specs.Plain.Calls.{and_then}
+use Rattle.nl_types.specs.Plain.Laws.{IsJudged}
+use Rattle.nl_types.specs.Blocks.Placing.{LacksSpace, LogsFit}
+use Rattle.nl_types.specs.Blocks.Lifetimes.{EndsOnce, KeepsCovered, Ledger}
+use Rattle.nl_types.specs.Plain.Limits.{checkpoint_number_limit, is_geometry}
+use Rattle.nl_types.specs.Blocks.Segments.{Segments}
+use Rattle.nl_types.specs.Plain.Worlds as worlds
+use Rattle.nl_types.specs.Plain.Worlds.{Outcome, Reply, World, latest}
 use Rattle.nl_vstore.specs.Located.{needed_count, needed_in, numbers_in}
 use Rattle.nl_vstore.specs.Stores.{IsMoveBrokenOff, IsMoveRefused, IsMoved, IsReclaimed, IsStore, Store, payload_under}
 use Rattle.nl_reclaim.specs.Cleaning.{HasListedFirst, HasMovedFirst, freed_by, judged_segment, judged_by, judged_for, judged_info, retired, split}

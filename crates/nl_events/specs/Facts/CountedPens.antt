@@ -13,25 +13,23 @@ use Rattle.nl_types.specs.declared.event.Mode.{Mode}
 use Rattle.nl_types.specs.declared.reply.Answer.{Answer}
 use Rattle.nl_types.specs.declared.reply.Answer.TheVariants as answer
 use Rattle.nl_types.specs.declared.segment.SegmentInfo.{SegmentInfo}
-use Rattle.nl_types.specs.declared.period.Period.{Period}
-use Rattle.nl_types.specs.Entries.{Entry, is_needed, is_period_needed}
-use Rattle.nl_types.specs.NeedLaws.{AreGone}
-use Rattle.nl_types.specs.NumberLists.{is_one_of}
-use Rattle.nl_types.specs.Protection.{staying_numbers}
-use Rattle.nl_types.specs.Trees.{Tree}
-use Rattle.nl_types.specs.Worlds.{Reply}
+use Rattle.nl_types.specs.Blocks.Entries.{Entry, is_needed}
+use Rattle.nl_types.specs.Blocks.NeedLaws.{AreGone}
+use Rattle.nl_types.specs.Plain.NumberLists.{is_one_of}
+use Rattle.nl_types.specs.Plain.Trees.{Tree}
+use Rattle.nl_types.specs.Plain.Worlds.{Reply}
 use Rattle.nl_vstore.specs.Batches.{Changes}
 use Rattle.nl_vstore.specs.Counts.{needed_counts}
-use Rattle.nl_vstore.specs.Located.{by_period, needed_count, needed_in}
+use Rattle.nl_vstore.specs.Located.{needed_count, needed_in}
 use Rattle.nl_vstore.specs.Stores.{IsMoveRefused, IsMoved, IsReclaimed, IsStore, Store, capacity, content_in}
 use Rattle.nl_reclaim.specs.Cleaning.{CanBeMoved, HasListedFirst, HasListedNone, HasMovedFirst, freed_by, judged_for, judged_info, retired, retired_with, split}
 use Rattle.nl_reclaim.specs.Moves.{ListedMovesAreFirst}
 use Rattle.nl_reclaim.specs.declared.moving.MoveCount.{MoveCount}
 use Rattle.nl_counts.specs.Counted.{Counted, IsCounted}
-use Rattle.nl_counts.specs.Events.{AreNeededIn, HasMovedNeeded, IsLatest, IsNextWritten, TellsNeeds}
+use Rattle.nl_counts.specs.Events.{AreNeededIn, HasMovedNeeded, IsLatest, IsNextWritten}
 use Rattle.nl_counts.specs.Laws.{EmptyCheckpointsKeepCounts, FirstNeededStandThere, RefusedWritesKeepCounts, RetirementsKeepCounts}
 use Rattle.nl_cpfile.specs.Searching.{IsLeastAbove}
-use Rattle.nl_cpfile.specs.Tables.{all, moded, rows}
+use Rattle.nl_cpfile.specs.Tables.{all, moded}
 use Rattle.nl_cpfile.specs.Tables as cpfile
 use Rattle.nl_cpfile.specs.declared.checkpoint.Checkpoint.{Checkpoint}
 use Rattle.nl_cpfile.specs.Facts.Rising.{map-push}
@@ -49,12 +47,11 @@ use Rattle.nl_events.specs.Facts.ExpiredNumbers.{without-none}
 use Rattle.nl_events.specs.Facts.KeptLists.{among-found, in-span, left-or-gone, left-was}
 use Rattle.nl_events.specs.Facts.KeptNumbers.{found-among}
 use Rattle.nl_events.specs.Facts.Ledgers.{stands-latest}
-use Rattle.nl_events.specs.Facts.NeededNumbers.{needs-same, staying-all}
 use Rattle.nl_events.specs.Facts.NothingChanged.{keeps-same, nothing-fits, nothing-written}
 use Rattle.nl_events.specs.Facts.Outside.{retired-inside}
 use Rattle.nl_events.specs.Facts.TableChanges.{all-with_mode, all-without, left, moded-same}
 
--- ---- the latest checkpoint, and what is needed
+-- ---- the latest checkpoint
 
 pub latest-of : (l : Layout) → IsSoundPen l
     → IsLatest l.lists.table.latest.number (kept_numbers l.lists) l.store
@@ -65,10 +62,6 @@ latest-of l sound = record {
       sound.ledger.below c (reached_by (layout_pages l) k) (ap (option_map (reached_by (layout_pages l))) at);
   bounded = sound.ledger.bounded;
 }
-
-pub tells-needs : (l : Lists)
-    → TellsNeeds (is_period_needed (staying_numbers 0 (rows l.table))) (kept_numbers l)
-tells-needs l p = ap (λ (ns : List ℕ). is_period_needed ns p) (staying-all (kept_by l))
 
 -- ---- what changes lists alone
 
@@ -213,16 +206,6 @@ module _ (l : Lists) (old new : Store) (segment : ℕ) (c : Counted) (pen : IsPe
       (ap (λ (ns : List ℕ). length ns) (none_needed l old segment count is)) reclaimed counted
 
 -- ---- a move in two halves
-
-abbrev needed-there : Lists → Entry → Bool
-needed-there l = by_period (is_period_needed (staying_numbers 0 (rows l.table)))
-
--- what a pen's tables list is what its kept checkpoints need
-pub listed-first : (l : Lists) (s : Store) (segment limit count : ℕ) (listed : List ℕ)
-    → HasListedFirst (needed-there l) segment limit s listed count
-    → HasListedFirst (needed_by l) segment limit s listed count
-listed-first l s segment limit count listed has =
-    subst (λ (needed : Entry → Bool). HasListedFirst needed segment limit s listed count) (needs-same l) has
 
 pub not-listed : (l : Lists) (s : Store) (segment limit moment : ℕ) (e : VolError)
     → HasListedNone segment limit s e
@@ -402,13 +385,11 @@ are-gone first last next old new lost above = record {
 -- ---- counts that are to come
 
 -- where some checkpoints are taken as gone
-pub counts-left : (r : Result (List ℕ) VolError) (s : Store) (c : Counted) (test : Period → Bool)
-    (first next : ℕ) (kept stay : List ℕ)
-    → IfOk r (λ counts.
-    (kept stay : List ℕ) → IsCounted s kept c → AreGone first next kept stay → TellsNeeds test stay
+pub counts-left : (r : Result (List ℕ) VolError) (s : Store) (c : Counted) (first next : ℕ)
+    (kept stay : List ℕ)
+    → IfOk r (λ counts. (kept : List ℕ) → IsCounted s kept c → AreGone first next kept stay
     → counts ≡ needed_counts s (is_needed stay))
-    → IsCounted s kept c → AreGone first next kept stay → TellsNeeds test stay
+    → IsCounted s kept c → AreGone first next kept stay
     → IfOk r (λ counts. counts ≡ needed_counts s (is_needed stay))
-counts-left (Ok counts) s c test first next kept stay after counted gone tells =
-    after kept stay counted gone tells
-counts-left (Err e) s c test first next kept stay after counted gone tells = tt
+counts-left (Ok counts) s c first next kept stay after counted gone = after kept counted gone
+counts-left (Err e) s c first next kept stay after counted gone = tt

@@ -11,14 +11,14 @@ use Rattle.std.specs.Cmp.{unsigned_tied}
 use Rattle.std.proofs.lemmas.Bool.{and_parts, cases_Bool, eqb-true, leb-true}
 use Rattle.nl_types.specs.declared.event.Mode.{Mode}
 use Rattle.nl_types.specs.declared.event.Mode.TheVariants.{Snapshot}
-use Rattle.nl_types.specs.Roots.{Pages}
-use Rattle.nl_types.specs.Worlds.{Copy, World, are_stamps_rising, copy_at}
+use Rattle.nl_types.specs.Blocks.Roots.{Pages}
+use Rattle.nl_types.specs.Plain.Worlds.{Copy, World, are_stamps_rising, copy_at}
 use Rattle.nl_types.specs.Facts.NumberedLists.{before-lt}
 use Rattle.nl_layout.specs.Root.{root_of}
 use Rattle.nl_files.specs.CheckpointRoots.{IsTreeSound}
 use Rattle.nl_cpfile.specs.Tables.{IsRising, IsTable, Precedes, kept_at, checkpoint_root}
 use Rattle.nl_cpfile.specs.declared.checkpoint.Checkpoint.{Checkpoint}
-use Rattle.nl_commit.specs.Commits.{HasTree, IsImage}
+use Rattle.nl_commit.specs.Commits.{HasTree, IsShownImage}
 use Rattle.nl_commit.specs.Layout.{IsPen, Layout, layout_pages}
 use Rattle.nl_commit.specs.Means.{CopyMeans, Means}
 use Rattle.nl_commit.specs.Notes.{shown_of}
@@ -132,7 +132,7 @@ module _ (l : Layout) (pen : IsPen l) where
       }
 
   -- what readers see of a pen is an image
-  pub pen-image : IsImage (shown_of l)
+  pub pen-image : IsShownImage (shown_of l)
   pen-image = record {
     table = pen-table l pen;
     trees = λ n c at.

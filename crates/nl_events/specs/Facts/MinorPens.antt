@@ -9,10 +9,10 @@ use Rattle.std.proofs.lemmas.List.Elements.{All-push}
 use Rattle.nl_types.specs.declared.error.VolError.TheVariants.{NumbersSpent}
 use Rattle.nl_types.specs.declared.event.Event.TheVariants.{Move}
 use Rattle.nl_types.specs.declared.reply.Answer.TheVariants as answer
-use Rattle.nl_types.specs.Limits.{checkpoint_number_limit}
-use Rattle.nl_types.specs.Lifetimes.{Allowed, EndsOnce, IsLedger, KeepsCovered, Ledger, Numbers, Makes, ledger_after, numbers_after, numbers_at, unless_ended}
-use Rattle.nl_types.specs.Worlds as worlds
-use Rattle.nl_types.specs.Worlds.{Copy, IsWorld, Outcome, Reply, World, latest, minor_copy, minor_copies}
+use Rattle.nl_types.specs.Plain.Limits.{checkpoint_number_limit}
+use Rattle.nl_types.specs.Blocks.Lifetimes.{Allowed, EndsOnce, IsLedger, KeepsCovered, Ledger, Numbers, Makes, ledger_after, numbers_after, numbers_at, unless_ended}
+use Rattle.nl_types.specs.Plain.Worlds as worlds
+use Rattle.nl_types.specs.Plain.Worlds.{Copy, IsWorld, Outcome, Reply, World, latest, minor_copy, minor_copies}
 use Rattle.nl_types.specs.Facts.ExactLifetimes.{covered_kept_all, ends_once, ledger_after-IsLedger}
 use Rattle.nl_types.specs.Facts.WorldLaws.{steps_keep_worlds}
 use Rattle.nl_layout.specs.Root.{root_of}

@@ -4,8 +4,8 @@ use Rattle.std.specs.Prelude.{All}
 use Rattle.std.specs.Option.{option_map}
 use Rattle.std.proofs.lemmas.List.Elements.{All-map, All-weaker}
 use Rattle.nl_types.specs.declared.event.Mode.{Mode}
-use Rattle.nl_types.specs.Lifetimes.{IsLedger}
-use Rattle.nl_types.specs.Limits.{checkpoint_number_limit}
+use Rattle.nl_types.specs.Blocks.Lifetimes.{IsLedger}
+use Rattle.nl_types.specs.Plain.Limits.{checkpoint_number_limit}
 use Rattle.nl_layout.specs.Root.{root_of}
 use Rattle.nl_layout.specs.declared.root.Root.{Root}
 use Rattle.nl_files.specs.CheckpointRoots.{IsTreeSound}

@@ -3,9 +3,9 @@ use Rattle.std.proofs.Common.{◌≡◌, ℕ, ◌/◌, ◌%◌, List, Option, So
 use Rattle.std.specs.Prelude.{cond, ◌==◌}
 use Rattle.std.specs.Option.{option_and_then}
 use Rattle.nl_types.specs.Facts.PartialMaps.{same_at_all}
-use Rattle.nl_types.specs.PartialMaps.{Keeps}
-use Rattle.nl_types.specs.RootChanges.{IsSound, KeepsFile}
-use Rattle.nl_types.specs.Roots.{Pages, Root, page_at, place_at}
+use Rattle.nl_types.specs.Blocks.PartialMaps.{Keeps}
+use Rattle.nl_types.specs.Blocks.RootChanges.{IsSound, KeepsFile}
+use Rattle.nl_types.specs.Blocks.Roots.{Pages, Root, page_at, place_at}
 use Rattle.nl_layout.specs.Root.{root_of}
 use Rattle.nl_layout.specs.declared.inode.Inode.{Inode}
 use Rattle.nl_ifile.specs.Inodes.{InodeMap, block_for, in_block, inode_at, inode_in}

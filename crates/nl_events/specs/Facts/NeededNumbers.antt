@@ -1,16 +1,12 @@
--- What the kept checkpoints need, by rows and by numbers.
-use Rattle.std.proofs.Common.{◌≡◌, ℕ, Bool, true, false, cond, ◌||◌, List, [], ◌∷◌, refl, ap, ◌∙◌}
+-- The checkpoints that stay, by rows and by numbers.
+use Rattle.std.proofs.Common.{◌≡◌, Bool, true, false, cond, ◌||◌, List, [], ◌∷◌, refl, ap, ◌∙◌}
 use Rattle.std.proofs.Math.Dec.{leb-zero}
 use Rattle.std.specs.Prelude.{map}
 use Rattle.std.specs.List.{filter}
-use Rattle.nl_types.specs.Entries.{is_period_needed}
-use Rattle.nl_types.specs.Protection.{is_staying, staying_numbers}
-use Rattle.nl_types.specs.Rows.{is_snapshot, number_of}
-use Rattle.nl_vstore.specs.Located.{by_period}
-use Rattle.nl_cpfile.specs.Tables.{checkpoint_row, rows, rows_of}
+use Rattle.nl_types.specs.Plain.Protection.{is_staying, staying_numbers}
+use Rattle.nl_types.specs.Plain.Rows.{is_snapshot, number_of}
+use Rattle.nl_cpfile.specs.Tables.{checkpoint_row, rows_of}
 use Rattle.nl_cpfile.specs.declared.checkpoint.Checkpoint.{Checkpoint}
-use Rattle.nl_commit.specs.CleaningEvents.{needed_by}
-use Rattle.nl_commit.specs.Volume.{Lists, kept_by}
 
 or-true : (b : Bool) → (b || true) ≡ true
 or-true true = refl
@@ -28,6 +24,3 @@ staying-all (c ∷ kept) =
     (filter (is_staying 0) (rows_of kept))))
     (stays c)
     ∙ ap (λ ns. c.number ∷ ns) (staying-all kept)
-
-pub needs-same : (l : Lists) → by_period (is_period_needed (staying_numbers 0 (rows l.table))) ≡ needed_by l
-needs-same l = ap (λ (ns : List ℕ). by_period (is_period_needed ns)) (staying-all (kept_by l))

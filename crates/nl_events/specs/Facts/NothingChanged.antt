@@ -1,7 +1,7 @@
 -- Where nothing is written, moved or read, a store is as it was.
 use Rattle.std.proofs.Common.{◌≡◌, ℕ, Bool, true, false, [], refl, ap, arith}
 use Rattle.std.proofs.lemmas.List.Elements.{All-nil}
-use Rattle.nl_types.specs.Entries.{Content}
+use Rattle.nl_types.specs.Blocks.Entries.{Content}
 use Rattle.nl_space.specs.Appended.{IsAppended}
 use Rattle.nl_vstore.specs.Batches.{CanBeTaken}
 use Rattle.nl_vstore.specs.Stores.{IsMoved, IsWritten, KeepsStored, Store, address_in, is_inside, space_in}

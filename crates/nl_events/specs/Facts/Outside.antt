@@ -7,9 +7,9 @@ use Rattle.std.specs.Option.{ok_or}
 use Rattle.nl_types.specs.declared.error.VolError.{VolError}
 use Rattle.nl_types.specs.declared.error.VolError.TheVariants.{BadRange}
 use Rattle.nl_types.specs.declared.segment.SegmentInfo.{SegmentInfo}
-use Rattle.nl_types.specs.Segments.{Segments, clean_info, info_of}
-use Rattle.nl_types.specs.Entries.{Entry}
-use Rattle.nl_types.specs.NumberLists.{is_one_of}
+use Rattle.nl_types.specs.Blocks.Segments.{Segments, clean_info, info_of}
+use Rattle.nl_types.specs.Blocks.Entries.{Entry}
+use Rattle.nl_types.specs.Plain.NumberLists.{is_one_of}
 use Rattle.nl_vstore.specs.Located.{needed_count, needed_in, payload_block, payload_count_in, picked}
 use Rattle.nl_vstore.specs.Stores.{IsStore, Store, address_in, is_inside}
 use Rattle.nl_reclaim.specs.Cleaning.{freed_by, judged_info, retired}

@@ -13,10 +13,10 @@ use Rattle.nl_types.specs.declared.error.VolError.TheVariants.{NumbersSpent}
 use Rattle.nl_types.specs.declared.event.Mode.{Mode}
 use Rattle.nl_types.specs.declared.event.Event.TheVariants as event
 use Rattle.nl_types.specs.declared.reply.Answer.TheVariants as answer
-use Rattle.nl_types.specs.Limits.{checkpoint_number_limit}
-use Rattle.nl_types.specs.Roots.{Pages}
-use Rattle.nl_types.specs.Trees.{Tree}
-use Rattle.nl_types.specs.Worlds.{IsWorld, World, Reply, Copy, copy_at, greatest, numbers, latest, latest_stamp, step}
+use Rattle.nl_types.specs.Plain.Limits.{checkpoint_number_limit}
+use Rattle.nl_types.specs.Blocks.Roots.{Pages}
+use Rattle.nl_types.specs.Plain.Trees.{Tree}
+use Rattle.nl_types.specs.Plain.Worlds.{IsWorld, World, Reply, Copy, copy_at, greatest, numbers, latest, latest_stamp, step}
 use Rattle.nl_types.specs.Facts.NumberedLists.{before-lt}
 use Rattle.nl_layout.specs.Root.{root_of}
 use Rattle.nl_tree.specs.Became.{Current, holding_over}

@@ -4,8 +4,8 @@ use Rattle.std.specs.Prelude.{All, map, ◌||◌}
 use Rattle.std.specs.Option.{option_map}
 use Rattle.std.proofs.lemmas.Bool.{eqb-false}
 use Rattle.std.proofs.lemmas.List.Elements.{All-filter}
-use Rattle.nl_types.specs.Lifetimes.{EachAllowed, IsLedger, KeepsCovered, Ledger, Forgets, ledger_after, ledger_after_all}
-use Rattle.nl_types.specs.NumberLists.{is_one_of}
+use Rattle.nl_types.specs.Blocks.Lifetimes.{EachAllowed, IsLedger, KeepsCovered, Ledger, Forgets, ledger_after, ledger_after_all}
+use Rattle.nl_types.specs.Plain.NumberLists.{is_one_of}
 use Rattle.nl_types.specs.Facts.ExactLifetimes.{covered_kept_all, ledger_after_all-IsLedger}
 use Rattle.nl_layout.specs.Root.{root_of}
 use Rattle.nl_files.specs.CheckpointRoots.{IsTreeSound}

@@ -12,12 +12,12 @@ use Rattle.nl_types.specs.declared.error.VolError.TheVariants as error
 use Rattle.nl_types.specs.declared.event.Event.TheVariants.{Resize}
 use Rattle.nl_types.specs.declared.reply.Answer.{Answer}
 use Rattle.nl_types.specs.declared.reply.Answer.TheVariants as answer
-use Rattle.nl_types.specs.Entries.{is_needed}
-use Rattle.nl_types.specs.Limits.{is_geometry}
-use Rattle.nl_types.specs.Segments.{Segments, clean_info}
+use Rattle.nl_types.specs.Blocks.Entries.{is_needed}
+use Rattle.nl_types.specs.Plain.Limits.{is_geometry}
+use Rattle.nl_types.specs.Blocks.Segments.{Segments, clean_info}
 use Rattle.nl_types.specs.declared.segment.SegmentInfo.{SegmentInfo}
-use Rattle.nl_types.specs.Runs.{Step}
-use Rattle.nl_types.specs.Worlds.{Reply, World}
+use Rattle.nl_types.specs.Plain.Runs.{Step}
+use Rattle.nl_types.specs.Plain.Worlds.{Reply, World}
 use Rattle.nl_vstore.specs.Located.{needed_count}
 use Rattle.nl_vstore.specs.Stores.{HasGrown, IsGrowthRefused, IsStore, Store, capacity, content_in, entry_now}
 use Rattle.nl_counts.specs.Counted.{Counted}

@@ -1,7 +1,7 @@
 -- What a checkpoint of a pen could write.
 use Rattle.std.proofs.Common.{◌≡◌, ℕ, length, sym, ap, ◌∙◌, subst, refl}
 use Rattle.std.proofs.lemmas.List.{length-map}
-use Rattle.nl_types.specs.Roots as roots
+use Rattle.nl_types.specs.Blocks.Roots as roots
 use Rattle.nl_vstore.specs.Batches.{Changes, item_of_birth, items_of}
 use Rattle.nl_vstore.specs.Stores.{content_in}
 use Rattle.nl_layout.specs.Root.{root_of}

@@ -11,8 +11,8 @@ use Rattle.nl_types.specs.declared.event.Mode.{Mode}
 use Rattle.nl_types.specs.declared.reply.Answer.{Answer}
 use Rattle.nl_types.specs.declared.reply.Answer.TheVariants as answer
 use Rattle.nl_types.specs.declared.segment.SegmentInfo.{SegmentInfo}
-use Rattle.nl_types.specs.CheckpointLaws.{removed_by}
-use Rattle.nl_types.specs.Worlds.{Reply, is_moving}
+use Rattle.nl_types.specs.Plain.CheckpointLaws.{removed_by}
+use Rattle.nl_types.specs.Plain.Worlds.{Reply, is_moving}
 use Rattle.nl_vstore.specs.Batches.{Changes}
 use Rattle.nl_vstore.specs.Located.{needed_in, numbers_in}
 use Rattle.nl_vstore.specs.Stores.{IsReclaimed, Numbered, Store}
@@ -21,7 +21,7 @@ use Rattle.nl_reclaim.specs.Cleaning.{judged_for}
 use Rattle.nl_cpfile.specs.Tables.{Table, range_in, with_mode, with_next, without}
 use Rattle.nl_cpfile.specs.declared.checkpoint.Checkpoint.{Checkpoint}
 use Rattle.nl_commit.specs.CleaningEvents.{HasMovedOut, HasResized, IsMoveRefusal, needed_by}
-use Rattle.nl_commit.specs.Commits.{AllNext, IsImage, IsNew, KeepsCheckpoints, applied, numbers_written, with_room, without_numbers}
+use Rattle.nl_commit.specs.Commits.{AllNext, IsShownImage, IsNew, KeepsCheckpoints, applied, numbers_written, with_room, without_numbers}
 use Rattle.nl_commit.specs.Layout.{AllowedBetween, Does, HasRefused, HasWrittenCheckpoint, IsPen, KeepsNumbers, Layout, layout_of}
 use Rattle.nl_commit.specs.Notes.{AreCommitsOf, CommitsTellAll, HasNoted, freed_in, has_other_mode, known_commit, made_where, mounted_as, moved_as, new_checkpoint, noted_by, shown_of, shown_page, where_any, where_true, without_changes}
 use Rattle.nl_commit.specs.Shown.{Shown}
@@ -58,7 +58,7 @@ tells-one old new c pen keeps is fresh = record {
   image = is;
   next = (
     record {
-      image = subst IsImage is (pen-image new pen);
+      image = subst IsShownImage is (pen-image new pen);
       keeps = subst (KeepsCheckpoints (shown_of old)) is keeps;
       new = fresh;
     },

@@ -5,11 +5,11 @@ use Rattle.std.specs.Prelude.{cond}
 use Rattle.std.proofs.Math.Nat.{div-le_self}
 use Rattle.std.specs.List.{Contains, slice_get}
 use Rattle.std.specs.Option.{option_map, option_and_then}
-use Rattle.nl_types.specs.Entries.{Birth, GivenOnce, birth_of}
-use Rattle.nl_types.specs.Lifetimes.{blank}
-use Rattle.nl_types.specs.Roots as roots
-use Rattle.nl_types.specs.Roots.{Pages, page_at, pages_of, place_at}
-use Rattle.nl_types.specs.RootChanges.{IsSound}
+use Rattle.nl_types.specs.Blocks.Entries.{Birth, GivenOnce, birth_of}
+use Rattle.nl_types.specs.Blocks.Lifetimes.{blank}
+use Rattle.nl_types.specs.Blocks.Roots as roots
+use Rattle.nl_types.specs.Blocks.Roots.{Pages, page_at, pages_of, place_at}
+use Rattle.nl_types.specs.Blocks.RootChanges.{IsSound}
 use Rattle.nl_vstore.specs.Batches.{Changes, CanBeTaken}
 use Rattle.nl_layout.specs.Root.{root_of}
 use Rattle.nl_layout.specs.declared.root.Root.{Root}

@@ -6,10 +6,10 @@ use Rattle.std.specs.List.{Contains}
 use Rattle.std.proofs.lemmas.Bool.{cases_eq, eq-eqb, ne_eqb}
 use Rattle.std.proofs.lemmas.List.Elements.{Contains-append_right}
 use Rattle.nl_types.specs.Facts.PartialMaps.{or_false}
-use Rattle.nl_types.specs.Entries.{Birth, Content}
-use Rattle.nl_types.specs.NumberLists.{NoneTwice, is_one_of}
-use Rattle.nl_types.specs.Roots.{Pages, Root, page_at, pages_of}
-use Rattle.nl_types.specs.RootChanges.{IsSound, KeepsFile, born, with_births}
+use Rattle.nl_types.specs.Blocks.Entries.{Birth, Content}
+use Rattle.nl_types.specs.Plain.NumberLists.{NoneTwice, is_one_of}
+use Rattle.nl_types.specs.Blocks.Roots.{Pages, Root, page_at, pages_of}
+use Rattle.nl_types.specs.Blocks.RootChanges.{IsSound, KeepsFile, born, with_births}
 use Rattle.nl_vstore.specs.Batches.{Changes}
 use Rattle.nl_blocktree.specs.Checkpoints.{ArePut, FileChange, batch_after, inodes_of, roots_after}
 use Rattle.nl_blocktree.specs.Numbering.{IsUnused}

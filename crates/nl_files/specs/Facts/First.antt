@@ -2,9 +2,9 @@
 use Rattle.std.proofs.Common.{◌≡◌, ◌⊎◌, ℕ, Option, None, refl, ap, sym, subst, ◌∙◌, inl, inr}
 use Rattle.std.proofs.lemmas.Bool.{cases_eq, eq-eqb, ne_eqb}
 use Rattle.std.specs.Prelude.{cond}
-use Rattle.nl_types.specs.Lifetimes.{blank}
-use Rattle.nl_types.specs.Roots.{Pages, Root, Empty, pages_of, place_at}
-use Rattle.nl_types.specs.RootChanges.{IsSound}
+use Rattle.nl_types.specs.Blocks.Lifetimes.{blank}
+use Rattle.nl_types.specs.Blocks.Roots.{Pages, Root, Empty, pages_of, place_at}
+use Rattle.nl_types.specs.Blocks.RootChanges.{IsSound}
 use Rattle.nl_layout.specs.declared.inode.Inode.{Inode}
 use Rattle.nl_types.specs.Facts.ExactLifetimes.{ledger-blank}
 use Rattle.nl_ifile.specs.Inodes.{IsInodeFile, inode_at}

@@ -3,9 +3,9 @@ use Rattle.std.proofs.Common.{◌≡◌, ◌⊎◌, ℕ, ◌+◌, ◌<◌, ◌�
 use Rattle.std.specs.List.{AllPairs}
 use Rattle.std.specs.Prelude.{◌&&◌, nat_le, nat_lt}
 use Rattle.std.proofs.lemmas.Bool.{cases_eq, ltb-true}
-use Rattle.nl_types.specs.Entries.{Entry, Place, covers, is_before_end}
-use Rattle.nl_types.specs.Lifetimes.{Allowed, IsLedger, Ledger, Numbers, Makes, numbers_at}
-use Rattle.nl_types.specs.Roots.{Pages, Root, Empty, pages_of, place_at}
+use Rattle.nl_types.specs.Blocks.Entries.{Entry, Place, covers, is_before_end}
+use Rattle.nl_types.specs.Blocks.Lifetimes.{Allowed, IsLedger, Ledger, Numbers, Makes, numbers_at}
+use Rattle.nl_types.specs.Blocks.Roots.{Pages, Root, Empty, pages_of, place_at}
 use Rattle.nl_types.specs.Facts.Births.{pages-written}
 use Rattle.nl_vstore.specs.Batches.{Changes, CanBeTaken, TakeLowestFree, is_live}
 use Rattle.nl_layout.specs.declared.inode.Inode.{Inode}

@@ -1,6 +1,6 @@
 -- A root stands for one holding at most.
 use Rattle.std.proofs.Common.{◌≡◌, ℕ, List, Option, Some, None, sym, ap, ◌∙◌}
-use Rattle.nl_types.specs.Roots.{Blocks, Pages, page_at}
+use Rattle.nl_types.specs.Blocks.Roots.{Blocks, Pages, page_at}
 use Rattle.nl_layout.specs.Root.{root_of}
 use Rattle.nl_layout.specs.declared.inode.Inode.{Inode}
 use Rattle.nl_layout.specs.declared.inode.InodeKind.{InodeKind}

@@ -4,7 +4,7 @@ use Rattle.std.specs.Prelude.{◌*◌, map}
 use Rattle.std.specs.List.{slice_get}
 use Rattle.std.proofs.lemmas.List.{length-map}
 use Rattle.std.proofs.lemmas.Option.{slice_get-map}
-use Rattle.nl_types.specs.Roots.{Blocks, Empty, Pages, page_at, place_at}
+use Rattle.nl_types.specs.Blocks.Roots.{Blocks, Empty, Pages, page_at, place_at}
 use Rattle.nl_layout.specs.Root.{root_of}
 use Rattle.nl_layout.specs.declared.root.Root.{Root as CodeRoot}
 use Rattle.nl_layout.specs.declared.root.Root.TheVariants as code_root

@@ -5,10 +5,10 @@ use Rattle.std.specs.Prelude.{◌==◌, if◌then◌else◌}
 use Rattle.std.proofs.lemmas.Bool.{cases_eq, eq-eqb, ne_eqb}
 use Rattle.std.proofs.lemmas.List.{length-map}
 use Rattle.nl_types.specs.Facts.PartialMaps.{same_at_all}
-use Rattle.nl_types.specs.Entries.{Birth, Content}
-use Rattle.nl_types.specs.NumberLists.{NoneTwice, is_one_of}
-use Rattle.nl_types.specs.Roots.{Root, page_at, pages_of}
-use Rattle.nl_types.specs.RootChanges.{IsSound, born, with_births}
+use Rattle.nl_types.specs.Blocks.Entries.{Birth, Content}
+use Rattle.nl_types.specs.Plain.NumberLists.{NoneTwice, is_one_of}
+use Rattle.nl_types.specs.Blocks.Roots.{Root, page_at, pages_of}
+use Rattle.nl_types.specs.Blocks.RootChanges.{IsSound, born, with_births}
 use Rattle.nl_vstore.specs.Batches.{Changes}
 use Rattle.nl_blocktree.specs.Checkpoints.{ArePut, batch_after, inodes_of, no_changes, roots_after}
 use Rattle.nl_blocktree.specs.Putting.{PutsAll, pages_after}

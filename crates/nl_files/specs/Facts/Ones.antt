@@ -1,10 +1,10 @@
 -- One inode is settled.
 use Rattle.std.proofs.Common.{◌≡◌, ℕ, suc, List, Option, Some, None, refl, ap, sym, subst, ◌∙◌, inl, inr}
 use Rattle.std.specs.Option.{IsSome, option_and_then}
-use Rattle.nl_types.specs.Entries.{Content}
-use Rattle.nl_types.specs.Roots as roots
-use Rattle.nl_types.specs.Roots.{NoBlocks, OfChain, Pages, page_at, pages_of, place_at}
-use Rattle.nl_types.specs.RootChanges.{IsSound}
+use Rattle.nl_types.specs.Blocks.Entries.{Content}
+use Rattle.nl_types.specs.Blocks.Roots as roots
+use Rattle.nl_types.specs.Blocks.Roots.{NoBlocks, OfChain, Pages, page_at, pages_of, place_at}
+use Rattle.nl_types.specs.Blocks.RootChanges.{IsSound}
 use Rattle.nl_vstore.specs.Batches.{Changes}
 use Rattle.nl_layout.specs.Root.{root_of}
 use Rattle.nl_layout.specs.declared.root.Root.{Root}

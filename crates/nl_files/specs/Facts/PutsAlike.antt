@@ -6,9 +6,9 @@ use Rattle.std.specs.Option.{IsSome, option_and_then}
 use Rattle.std.proofs.lemmas.Bool.{both_ways, cases_lt}
 use Rattle.std.proofs.lemmas.List.{append-nil}
 use Rattle.nl_types.specs.Facts.Births.{uncons}
-use Rattle.nl_types.specs.Entries.{Birth, Content, number_of}
-use Rattle.nl_types.specs.Roots.{Chain, Empty, NoBlocks, OfChain, OfTree, Pages, Root, RootKind, Tree, height_of, kind_of, numbered, page_at, pages_of, place_at}
-use Rattle.nl_types.specs.RootChanges.{InPayloadOrder, IsAt, IsSound, IsWrittenPlace, KeepsFile, NodeWritten, PrecedesInPayload, born, new_kind, of_chain, of_tree, was_absent}
+use Rattle.nl_types.specs.Blocks.Entries.{Birth, Content, number_of}
+use Rattle.nl_types.specs.Blocks.Roots.{Chain, Empty, NoBlocks, OfChain, OfTree, Pages, Root, RootKind, Tree, height_of, kind_of, numbered, page_at, pages_of, place_at}
+use Rattle.nl_types.specs.Blocks.RootChanges.{InPayloadOrder, IsAt, IsSound, IsWrittenPlace, KeepsFile, NodeWritten, PrecedesInPayload, born, new_kind, of_chain, of_tree, was_absent}
 use Rattle.nl_vstore.specs.Batches.{Changes, IsLowestFree, TakeLowestFree}
 use Rattle.nl_blocktree.specs.declared.change.BlockChange.{BlockChange}
 use Rattle.nl_blocktree.specs.Putting.{IsWrittenKind, PutsAll, pages_after}

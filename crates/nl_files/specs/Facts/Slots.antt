@@ -4,9 +4,9 @@ use Rattle.std.specs.Prelude.{cond}
 use Rattle.std.specs.List.{cons_option}
 use Rattle.std.specs.Option.{option_map}
 use Rattle.std.proofs.lemmas.Bool.{ne_eqb}
-use Rattle.nl_types.specs.Entries.{Content}
-use Rattle.nl_types.specs.Roots.{Root, page_at, pages_of}
-use Rattle.nl_types.specs.RootChanges.{IsSound}
+use Rattle.nl_types.specs.Blocks.Entries.{Content}
+use Rattle.nl_types.specs.Blocks.Roots.{Root, page_at, pages_of}
+use Rattle.nl_types.specs.Blocks.RootChanges.{IsSound}
 use Rattle.nl_vstore.specs.Batches.{Changes}
 use Rattle.nl_layout.specs.declared.inode.Inode.{Inode}
 use Rattle.nl_ifile.specs.Inodes.{inode_at}

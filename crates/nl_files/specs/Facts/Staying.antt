@@ -4,8 +4,8 @@ use Rattle.std.specs.Prelude.{cond, ◌==◌}
 use Rattle.std.specs.Option.{option_and_then}
 use Rattle.std.proofs.lemmas.Bool.{cases_eq, eq-eqb, ne_eqb}
 use Rattle.nl_types.specs.Facts.PartialMaps.{same_at_all}
-use Rattle.nl_types.specs.Roots.{Empty, Pages, Root, page_at, place_at}
-use Rattle.nl_types.specs.RootChanges.{IsSound, KeepsFile}
+use Rattle.nl_types.specs.Blocks.Roots.{Empty, Pages, Root, page_at, place_at}
+use Rattle.nl_types.specs.Blocks.RootChanges.{IsSound, KeepsFile}
 use Rattle.nl_layout.specs.Root.{root_of}
 use Rattle.nl_layout.specs.declared.inode.Inode.{Inode}
 use Rattle.nl_ifile.specs.Inodes.{InodeMap, block_for, in_block, inode_at, inode_in}

@@ -2,8 +2,8 @@
 use Rattle.std.proofs.Common.{◌≡◌, ℕ, List, [], ◌∷◌, ◌++◌, Option, refl, ap, sym, subst, ◌∙◌, append_assoc}
 use Rattle.std.specs.Prelude.{map}
 use Rattle.std.proofs.lemmas.List.{append-nil, map-append}
-use Rattle.nl_types.specs.Entries.{Birth, Content}
-use Rattle.nl_types.specs.Roots.{Root}
+use Rattle.nl_types.specs.Blocks.Entries.{Birth, Content}
+use Rattle.nl_types.specs.Blocks.Roots.{Root}
 use Rattle.nl_vstore.specs.Batches.{Changes}
 use Rattle.nl_layout.specs.declared.inode.Inode.{Inode}
 use Rattle.nl_blocktree.specs.Checkpoints.{ArePut, FileChange, batch_after}

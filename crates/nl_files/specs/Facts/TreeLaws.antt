@@ -1,7 +1,7 @@
 -- The current tree of a new volume, and the one that is left where a checkpoint was made.
 use Rattle.std.proofs.Common.{[], refl, ap, arith}
 use Rattle.std.specs.Option.{option_map}
-use Rattle.nl_types.specs.Trees.{Tree, root_alone}
+use Rattle.nl_types.specs.Plain.Trees.{Tree, root_alone}
 use Rattle.nl_types.specs.Facts.ExactLifetimes.{ledger-blank}
 use Rattle.nl_types.specs.Facts.Inodes.RootAlone.{new_inodes_mean_the_root}
 use Rattle.nl_dirs.specs.Records.{entry_of}

@@ -2,8 +2,8 @@
 use Rattle.std.specs.Prelude.{◌≡◌, ℕ, ◌+◌, ◌<◌, Bool, MatchBool, List, Option, None, Some}
 use Rattle.std.specs.List.{slice_get}
 use Rattle.std.specs.Option.{option_map}
-use Rattle.nl_types.specs.Paths.{Name}
-use Rattle.nl_types.specs.Roots.{Blocks}
+use Rattle.nl_types.specs.Plain.Paths.{Name}
+use Rattle.nl_types.specs.Blocks.Roots.{Blocks}
 use Rattle.nl_dirs.specs.declared.record.Record.{Record}
 use Rattle.nl_dirs.specs.Records.{IsPageOf, packed_block}
 use Rattle.nl_dirs.specs.Laws.{IsBefore, IsNotBefore}

@@ -1,6 +1,6 @@
 -- The changes of blocks that make what an inode became of the checkpoint's one.
 use Rattle.std.specs.Prelude.{◌≡◌, ℕ, zero, suc, ◌+◌, ◌-◌, ◌/◌, ◌≤◌, nat_lt, cond, List, [], ◌∷◌, ◌++◌, length, Option, None, Some}
-use Rattle.nl_types.specs.Roots.{Blocks}
+use Rattle.nl_types.specs.Blocks.Roots.{Blocks}
 use Rattle.nl_layout.specs.declared.inode.Inode.{Inode}
 use Rattle.nl_layout.specs.declared.root.Root.{Root}
 use Rattle.nl_layout.specs.declared.inode.InodeKind.{InodeKind}

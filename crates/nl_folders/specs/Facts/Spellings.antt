@@ -7,10 +7,10 @@ use Rattle.std.proofs.lemmas.List.Elements.{All-cons, All-nil}
 use Rattle.std.proofs.lemmas.List.Splits.{slice_split_at, slice_split_none}
 use Rattle.nl_types.specs.declared.error.VolError.{VolError}
 use Rattle.nl_types.specs.declared.error.VolError.TheVariants as error
-use Rattle.nl_types.specs.Characters.{dot, slash}
-use Rattle.nl_types.specs.Limits.{name_limit, path_length_limit}
-use Rattle.nl_types.specs.Paths.{Name, Path, is_name, names_of, path_of, same_name}
-use Rattle.nl_types.specs.Trees.{Tree, IsIn}
+use Rattle.nl_types.specs.Plain.Characters.{dot, slash}
+use Rattle.nl_types.specs.Plain.Limits.{name_limit, path_length_limit}
+use Rattle.nl_types.specs.Plain.Paths.{Name, Path, is_name, names_of, path_of, same_name}
+use Rattle.nl_types.specs.Plain.Trees.{Tree, IsIn}
 use Rattle.nl_folders.specs.Spelled.{joined, spelling, IsNameable}
 
 none_passes : (p : ℕ → Bool) (xs : List ℕ) → list_any p xs ≡ false → All (λ x. p x ≡ false) xs

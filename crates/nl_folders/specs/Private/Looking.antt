@@ -2,7 +2,7 @@
 use Rattle.std.specs.Prelude.{◌≡◌, ℕ, ◌≤◌, IsTrue, false, if◌then◌else◌, List, [], ◌∷◌, length, drop, Option, None, Some}
 use Rattle.std.specs.FinMap.{find, is_sorted}
 use Rattle.std.specs.Ordering.{is_lt}
-use Rattle.nl_types.specs.Paths.{Path, path_cmp, same_path}
+use Rattle.nl_types.specs.Plain.Paths.{Path, path_cmp, same_path}
 
 -- the first of the entries isn't below the path
 abbrev pub BeginsNotBelow : {X : Type 0} → Path → List (Path × X) → Type 0

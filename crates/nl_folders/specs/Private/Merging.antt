@@ -1,6 +1,6 @@
 -- How two trees are gone through side by side.
 use Rattle.std.specs.Prelude.{◌≡◌, ◌+◌, ◌≤◌, ◌++◌, length, drop, Option, None, Some}
-use Rattle.nl_types.specs.Trees.{Tree}
+use Rattle.nl_types.specs.Plain.Trees.{Tree}
 use Rattle.nl_folders.specs.declared.differences.Passed.{Passed}
 use Rattle.nl_folders.specs.Differences.{Differences, differences}
 

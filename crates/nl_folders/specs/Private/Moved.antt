@@ -2,16 +2,16 @@
 use Rattle.std.specs.Prelude.{ℕ, ◌+◌, ◌<◌, ◌≤◌, IsTrue, length, drop}
 use Rattle.std.specs.FinMap.{is_sorted}
 use Rattle.nl_types.specs.declared.reply.Node.{Node}
-use Rattle.nl_types.specs.Paths.{Path, path_cmp}
-use Rattle.nl_types.specs.Trees.{Tree}
-use Rattle.nl_folders.specs.declared.sides.Move.{Move}
+use Rattle.nl_types.specs.Plain.Paths.{Path, path_cmp}
+use Rattle.nl_types.specs.Plain.Trees.{Tree}
+use Rattle.nl_folders.specs.declared.sides.Relocation.{Relocation}
 use Rattle.nl_folders.specs.Private.Sides.{IsMovable}
 
 -- an entry with the front of its path cut off
 abbrev pub cut : ℕ → Path × Node → Path × Node
 cut count e = (drop count e.0, e.1)
 
-pub record IsMoved (present wanted : Tree) (m : Move) : Type 0 where
+pub record IsMoved (present wanted : Tree) (m : Relocation) : Type 0 where
   pub from : m.from + m.count ≤ length present
   pub to : m.to + m.count ≤ length wanted
   pub some : 0 < m.count

@@ -4,8 +4,8 @@ use Rattle.nl_types.specs.declared.event.Change.{Change}
 use Rattle.nl_types.specs.declared.event.Change.TheVariants.{Create, Mkdir, Write, Truncate}
 use Rattle.nl_types.specs.declared.reply.Node.{Node}
 use Rattle.nl_types.specs.declared.reply.Node.TheVariants.{Dir, File}
-use Rattle.nl_types.specs.Paths.{Path}
-use Rattle.nl_types.specs.Calls.{overwritten, resized}
+use Rattle.nl_types.specs.Plain.Paths.{Path}
+use Rattle.nl_types.specs.Plain.Calls.{overwritten, resized}
 use Rattle.nl_folders.specs.declared.rewriting.Run.{Run}
 use Rattle.nl_folders.specs.Blocks.{IsOfOtherBlocks, block_stands, blocks_in}
 use Rattle.nl_folders.specs.Spelled.{spelling}

@@ -5,10 +5,10 @@ use Rattle.nl_types.specs.declared.event.Change.{Change}
 use Rattle.nl_types.specs.declared.event.Change.TheVariants.{Mkdir, Rename}
 use Rattle.nl_types.specs.declared.reply.Node.{Node}
 use Rattle.nl_types.specs.declared.reply.Node.TheVariants.{Dir}
-use Rattle.nl_types.specs.Limits.{path_limit}
-use Rattle.nl_types.specs.Paths.{Name, Path, same_path, is_within}
-use Rattle.nl_types.specs.Trees.{Tree, IsTree, IsIn, lookup}
-use Rattle.nl_folders.specs.declared.sides.Move.{Move}
+use Rattle.nl_types.specs.Plain.Limits.{path_limit}
+use Rattle.nl_types.specs.Plain.Paths.{Name, Path, same_path, is_within}
+use Rattle.nl_types.specs.Plain.Trees.{Tree, IsTree, IsIn, lookup}
+use Rattle.nl_folders.specs.declared.sides.Relocation.{Relocation}
 use Rattle.nl_folders.specs.declared.sides.Step.{Step}
 use Rattle.nl_folders.specs.declared.sides.Step.TheVariants.{Make, Relocate}
 use Rattle.nl_folders.specs.Plans.{tree_after_all}
@@ -142,7 +142,7 @@ HasDirectoryAbove s path =
     ⊎ ((k : ℕ) × (k < length s.wanted) × (path_at s.wanted k ≡ dir) × (slice_index_or s.come k false ≡ true))
 
 -- a part stands alike in both trees
-pub record IsMovable (present wanted : Tree) (m : Move) : Type 0 where
+pub record IsMovable (present wanted : Tree) (m : Relocation) : Type 0 where
   pub is_step : IsStep present wanted (Relocate m)
   pub part_gone : IsPart present m.from (m.from + m.count)
   pub part_come : IsPart wanted m.to (m.to + m.count)
@@ -150,7 +150,7 @@ pub record IsMovable (present wanted : Tree) (m : Move) : Type 0 where
       → lookup present (path_at present m.from ++ rest) ≡ lookup wanted (path_at wanted m.to ++ rest)
 
 -- and can move
-pub record MayMove (s : TwoSides) (m : Move) : Type 0 where
+pub record MayMove (s : TwoSides) (m : Relocation) : Type 0 where
   pub movable : IsMovable s.present s.wanted m
   pub free_gone : AreFree s.gone m.from (m.from + m.count)
   pub free_come : AreFree s.come m.to (m.to + m.count)

@@ -5,8 +5,8 @@ use Rattle.nl_types.specs.declared.event.Change.{Change}
 use Rattle.nl_types.specs.declared.event.Change.TheVariants.{Unlink, Rmdir, Rename}
 use Rattle.nl_types.specs.declared.reply.Node.{Node}
 use Rattle.nl_types.specs.declared.reply.Node.TheVariants.{Dir, File}
-use Rattle.nl_types.specs.Paths.{Path, path_cmp}
-use Rattle.nl_types.specs.Trees.{Tree, lookup}
+use Rattle.nl_types.specs.Plain.Paths.{Path, path_cmp}
+use Rattle.nl_types.specs.Plain.Trees.{Tree, lookup}
 use Rattle.nl_folders.specs.declared.plans.Handed.{Handed}
 use Rattle.nl_folders.specs.declared.plans.Place.{Place}
 use Rattle.nl_folders.specs.declared.plans.Stage.{Stage}

@@ -5,7 +5,7 @@ use Rattle.std.proofs.lemmas.Bool.{cases_eq, cases_lt}
 use Rattle.std.proofs.lemmas.List.{get_or_past}
 use Rattle.nl_types.specs.declared.segment.Position.{Position}
 use Rattle.nl_types.specs.declared.segment.SegmentInfo.{SegmentInfo}
-use Rattle.nl_types.specs.Segments.{Segments, IsUsed, clean_info, info_of}
+use Rattle.nl_types.specs.Blocks.Segments.{Segments, IsUsed, clean_info, info_of}
 use Rattle.nl_device.specs.Failures.{no_failures}
 use Rattle.nl_device.specs.Pages.{DevicePages}
 use Rattle.nl_space.specs.Content.{HeldPayload, Payload}

@@ -5,14 +5,14 @@ use Rattle.std.specs.Option.{option_and_then, option_map}
 use Rattle.std.proofs.lemmas.List.{length-drop, length-take-le}
 use Rattle.nl_types.specs.declared.error.VolError.{VolError}
 use Rattle.nl_types.specs.declared.error.VolError.TheVariants.{BadImage, Memory}
-use Rattle.nl_types.specs.Segments.{IsUsed}
+use Rattle.nl_types.specs.Blocks.Segments.{IsUsed}
 use Rattle.nl_device.specs.Pages.{DevicePages}
 use Rattle.nl_layout.specs.declared.checkpoint_entry.CheckpointEntry.{CheckpointEntry}
 use Rattle.nl_space.specs.Content.{Payload}
 use Rattle.nl_space.specs.Images.{IsRestZero, pages_of_bytes}
 use Rattle.nl_vstore.specs.Periods.{Periods}
 use Rattle.nl_vstore.specs.Summaries.{SummariesAreOne}
-use Rattle.nl_types.specs.Roots.{Pages}
+use Rattle.nl_types.specs.Blocks.Roots.{Pages}
 use Rattle.nl_segwriter.specs.declared.images.Restored.{Restored}
 use Rattle.nl_segwriter.specs.Images.{AreLogsIn, HoldLogs, IsRestored, used_end, used_start, page_in}
 use Rattle.nl_segwriter.specs.Writing.{held_in}
@@ -22,7 +22,7 @@ use Rattle.nl_check.specs.Conditions.{FirstFault}
 use Rattle.nl_check.specs.Judging.{told}
 use Rattle.nl_image.specs.declared.reading.ReadImage.{ReadImage}
 use Rattle.nl_image.specs.declared.sections.Sections.{Sections}
-use Rattle.nl_image.specs.declared.tables.Tables.{Tables}
+use Rattle.nl_image.specs.declared.tables.ImageTables.{ImageTables}
 use Rattle.nl_image.specs.Conditions.{FirstFails, HasLogs, HasZeros, IsImage, blocks_told, pages_told, periods_told}
 use Rattle.nl_image.specs.Parts.{Parts, padding_of, padding_start, total_of}
 use Rattle.nl_image.specs.ReadPages.{pages_under, periods_under}
@@ -77,7 +77,7 @@ own-same table others payload held a b own =
     subst (λ (es : List (Option DatEntry)). HaveOwn es held) a
     (subst (λ (ps : List (Option Payload)). HaveOwn table ps) b own)
 
-module _ (x : Sections) (t : Tables) (is : IsSectioned x)
+module _ (x : Sections) (t : ImageTables) (is : IsSectioned x)
     (tables : HaveTables x.image.now (parts_read x t)) where
   abbrev image : List ℕ
   image = x.image.now

@@ -4,9 +4,9 @@ use Rattle.std.specs.Option.{option_and_then, option_map}
 use Rattle.std.proofs.Math.ListN.{get_or-map}
 use Rattle.std.proofs.lemmas.Grind.{get_or_after_one}
 use Rattle.std.proofs.lemmas.List.{length-map}
-use Rattle.nl_types.specs.Entries.{Entry, period_of}
-use Rattle.nl_types.specs.Roots.{pages_of}
-use Rattle.nl_types.specs.Segments.{IsUsed, total_blocks}
+use Rattle.nl_types.specs.Blocks.Entries.{Entry, period_of}
+use Rattle.nl_types.specs.Blocks.Roots.{pages_of}
+use Rattle.nl_types.specs.Blocks.Segments.{IsUsed, total_blocks}
 use Rattle.nl_device.specs.Pages.{DevicePages}
 use Rattle.nl_space.specs.Content.{HeldPayload}
 use Rattle.nl_vstore.specs.Batches.{number_of_payload}

@@ -1,7 +1,7 @@
 -- Worlds that keep the checkpoints that the volume didn't make by itself.
 use Rattle.std.specs.Prelude.{refl}
 use Rattle.std.proofs.Common.{◌∙◌}
-use Rattle.nl_types.specs.Worlds.{World}
+use Rattle.nl_types.specs.Plain.Worlds.{World}
 use Rattle.nl_keep.specs.Lasting.{KeepsAll, KeepsOwn}
 use Rattle.nl_keep.specs.Volumes.{LeadsTo, Meaning}
 

@@ -3,8 +3,8 @@ use Rattle.std.proofs.Common.{◌≡◌, ℕ, List, [], ◌∷◌, ◌++◌, Som
 use Rattle.std.proofs.lemmas.Option.{same_Some}
 use Rattle.std.specs.Ordering.{nat_cmp}
 use Rattle.std.specs.FinMap.{find}
-use Rattle.nl_types.specs.Trees.{Tree}
-use Rattle.nl_types.specs.Worlds.{World, Copy, copy_at, latest_stamp}
+use Rattle.nl_types.specs.Plain.Trees.{Tree}
+use Rattle.nl_types.specs.Plain.Worlds.{World, Copy, copy_at, latest_stamp}
 use Rattle.nl_types.specs.Facts.NumberedLists.{AllBelow, AllBelow-top, find-push_same}
 use Rattle.nl_keep.specs.Stored.{KeepsTree, StoresTree, snapshot_of}
 

@@ -1,7 +1,7 @@
 -- What a plan's calls have made so far, and what they cost.
 use Rattle.std.specs.Prelude.{◌≡◌, ◌+◌, List, length, Ok}
 use Rattle.nl_types.specs.declared.event.Change.{Change}
-use Rattle.nl_types.specs.Trees.{Tree}
+use Rattle.nl_types.specs.Plain.Trees.{Tree}
 use Rattle.nl_folders.specs.Plans.{AreWhereTheyDiffer, KeepMovedBy, PlanKeepsWhatMoves, Progress, Reached, tree_after_all}
 use Rattle.nl_keep.specs.declared.making.Cost.{Cost}
 use Rattle.nl_keep.specs.Made.{DoesCalls, bytes_of_all, told}

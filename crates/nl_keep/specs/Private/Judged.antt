@@ -4,10 +4,10 @@ use Rattle.std.specs.List.{list_all}
 use Rattle.std.specs.Ordering.{is_lt}
 use Rattle.nl_types.specs.declared.reply.Node.{Node}
 use Rattle.nl_types.specs.declared.reply.Node.TheVariants.{Dir, File}
-use Rattle.nl_types.specs.Calls.{is_dir}
-use Rattle.nl_types.specs.Limits.{file_limit, path_length_limit, path_limit}
-use Rattle.nl_types.specs.Paths.{Path, is_name, name_cmp, same_name}
-use Rattle.nl_types.specs.Trees.{Tree}
+use Rattle.nl_types.specs.Plain.Calls.{is_dir}
+use Rattle.nl_types.specs.Plain.Limits.{file_limit, path_length_limit, path_limit}
+use Rattle.nl_types.specs.Plain.Paths.{Path, is_name, name_cmp, same_name}
+use Rattle.nl_types.specs.Plain.Trees.{Tree}
 
 -- ---- an entry
 

@@ -5,10 +5,10 @@ use Rattle.nl_types.specs.declared.error.VolError.{VolError}
 use Rattle.nl_types.specs.declared.error.VolError.TheVariants.{BadName, BadRange, Latest, Memory, NoCheckpoint}
 use Rattle.nl_types.specs.declared.event.Change.{Change}
 use Rattle.nl_types.specs.declared.row.Row.{Row}
-use Rattle.nl_types.specs.NumberLists.{is_one_of}
-use Rattle.nl_types.specs.Paths.{Path, is_name}
-use Rattle.nl_types.specs.Rows.{is_between, is_no_range, removable, removal, rows_between}
-use Rattle.nl_types.specs.Worlds.{World, latest, rows, take_out}
+use Rattle.nl_types.specs.Plain.NumberLists.{is_one_of}
+use Rattle.nl_types.specs.Plain.Paths.{Path, is_name}
+use Rattle.nl_types.specs.Plain.Rows.{is_between, is_no_range, removable, removal, rows_between}
+use Rattle.nl_types.specs.Plain.Worlds.{World, latest, rows, take_out}
 use Rattle.nl_folders.specs.declared.folder.FolderError.{FolderError}
 use Rattle.nl_folders.specs.declared.folder.FolderError.TheVariants.{Refused}
 use Rattle.nl_folders.specs.Plans.{tree_after_all}

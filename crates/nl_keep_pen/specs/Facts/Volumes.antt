@@ -3,8 +3,8 @@ use Rattle.std.proofs.Common.{inl, inr}
 use Rattle.nl_types.specs.declared.error.VolError.{VolError}
 use Rattle.nl_types.specs.declared.error.VolError.TheVariants.{Fault, Memory, NoSpace}
 use Rattle.nl_types.specs.declared.event.Event.{Event}
-use Rattle.nl_types.specs.Runs.{Step, unshared_refusals}
-use Rattle.nl_types.specs.Worlds.{World, Reply}
+use Rattle.nl_types.specs.Plain.Runs.{Step, unshared_refusals}
+use Rattle.nl_types.specs.Plain.Worlds.{World, Reply}
 use Rattle.nl_keep.specs.Volumes.{volume_refusals}
 
 allowed_too : (lacks fails : Event → Type 0) (event : Event) (e : VolError) → unshared_refusals lacks fails event e

@@ -1,7 +1,7 @@
 -- How entries and lines are looked for.
 use Rattle.std.specs.Prelude.{◌≡◌, ℕ, ◌≤◌, Bool, true, false, ◌&&◌, if◌then◌else◌, List, [], ◌∷◌, length, drop, Option, None, Some}
 use Rattle.std.specs.Ordering.{is_lt}
-use Rattle.nl_types.specs.Paths.{Name, Path, name_cmp, path_cmp, same_name}
+use Rattle.nl_types.specs.Plain.Paths.{Name, Path, name_cmp, path_cmp, same_name}
 use Rattle.nl_manifests.specs.declared.manifest.Line.{Line}
 use Rattle.nl_manifests.specs.HostTrees.{line_named}
 

@@ -4,8 +4,8 @@ use Rattle.std.specs.FinMap.{find}
 use Rattle.std.specs.List.{flat_map}
 use Rattle.nl_types.specs.declared.reply.Node.{Node}
 use Rattle.nl_types.specs.declared.reply.Node.TheVariants.{Dir, File}
-use Rattle.nl_types.specs.Paths.{Name, Path, path_cmp}
-use Rattle.nl_types.specs.Trees.{Tree, lookup}
+use Rattle.nl_types.specs.Plain.Paths.{Name, Path, path_cmp}
+use Rattle.nl_types.specs.Plain.Trees.{Tree, lookup}
 use Rattle.nl_manifests.specs.declared.manifest.Line.{Line}
 use Rattle.nl_manifests.specs.declared.manifest.Manifest.{Manifest}
 use Rattle.nl_manifests.specs.declared.host_tree.HostEntry.{HostEntry}

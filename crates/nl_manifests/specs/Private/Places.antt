@@ -2,7 +2,7 @@
 use Rattle.std.specs.Prelude.{◌≡◌, ℕ, ◌-◌, ◌<◌, ◌≤◌, Bool, true, false, List, [], ◌∷◌, ◌++◌, length, take, drop, slice_set}
 use Rattle.std.specs.FinMap.{put, is_sorted}
 use Rattle.std.specs.Ordering.{is_eq, is_lt}
-use Rattle.nl_types.specs.Paths.{Path, path_cmp}
+use Rattle.nl_types.specs.Plain.Paths.{Path, path_cmp}
 use Rattle.nl_manifests.specs.declared.ordered.Place.{Place}
 use Rattle.nl_manifests.specs.declared.ordered.Place.TheVariants.{Over, Before}
 

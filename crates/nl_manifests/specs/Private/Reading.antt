@@ -1,6 +1,6 @@
 -- Reading a manifest from the front on. Each reader gives what it read and the bytes behind it.
 use Rattle.std.specs.Prelude.{◌≡◌, ℕ, zero, suc, ◌+◌, ◌-◌, ◌*◌, ◌^◌, Bool, true, false, ◌&&◌, if◌then◌else◌, ◌==◌, nat_lt, nat_le, List, [], ◌∷◌, ◌++◌, length, codes, Option, Some, None, option_and_then, Result, Ok, Err}
-use Rattle.nl_types.specs.Characters.{dot, line_feed}
+use Rattle.nl_types.specs.Plain.Characters.{dot, line_feed}
 use Rattle.nl_manifests.specs.declared.attributes.Time.{Time}
 use Rattle.nl_manifests.specs.declared.attributes.Attributes.{Attributes}
 use Rattle.nl_manifests.specs.declared.manifest.LineKind.{LineKind}

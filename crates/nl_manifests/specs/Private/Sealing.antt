@@ -1,8 +1,8 @@
 -- How the tree that shows one of the host is put together.
 use Rattle.std.specs.Prelude.{if◌then◌else◌, List, [], ◌∷◌, ◌++◌, Option, None, Some}
 use Rattle.nl_types.specs.declared.reply.Node.TheVariants.{Dir, File}
-use Rattle.nl_types.specs.Paths.{Path, is_within}
-use Rattle.nl_types.specs.Trees.{Tree, name_below}
+use Rattle.nl_types.specs.Plain.Paths.{Path, is_within}
+use Rattle.nl_types.specs.Plain.Trees.{Tree, name_below}
 use Rattle.nl_manifests.specs.declared.manifest.Line.{Line}
 use Rattle.nl_manifests.specs.declared.manifest.Manifest.{Manifest}
 use Rattle.nl_manifests.specs.declared.host_tree.HostNode.{HostNode}

@@ -6,7 +6,7 @@ use Rattle.std.specs.Ordering.{nat_cmp, eq_by_cmp}
 use Rattle.std.proofs.lemmas.Bool.{cases_Bool, cond-false, cond-true, eqb-true, ne_eqb}
 use mathlib.Core.List.{IsPrefix}
 use Rattle.nl_types.specs.declared.event.Mode.{Mode}
-use Rattle.nl_types.specs.Trees.{Tree}
+use Rattle.nl_types.specs.Plain.Trees.{Tree}
 use Rattle.nl_layout.specs.Root.{root_of}
 use Rattle.nl_layout.specs.declared.root.Root.{Root as RootBlock}
 use Rattle.nl_tree.specs.Held.{Holding, held_block}
@@ -19,7 +19,7 @@ use Rattle.nl_cpfile.specs.Tables.{IsRising, Precedes, all, is_kept_without, kep
 use Rattle.nl_cpfile.specs.declared.checkpoint.Checkpoint.{Checkpoint}
 use Rattle.nl_cpfile.specs.Facts.Found.{eq_by_cmp-nat_cmp, found, found-push}
 use Rattle.nl_cpfile.specs.Facts.Rising.{All-last}
-use Rattle.nl_commit.specs.Commits.{AllNext, IsHistory, IsImage, IsNext, applied, image_of}
+use Rattle.nl_commit.specs.Commits.{AllNext, IsHistory, IsShownImage, IsNext, applied, shown_after}
 use Rattle.nl_commit.specs.Shown.{Shown, nothing, pages_shown}
 use Rattle.nl_commit.specs.declared.commit.Commit.{Commit}
 use Rattle.nl_commit.specs.declared.commit.Commit.TheVariants.{Freed, GivenBack, ModeSet, Mounted, RangeRemoved, Removed, Resized, Whole, Written}
@@ -133,7 +133,7 @@ module _ (n : ℕ) (P : Holding → Type 0) where
     pub held : (c : Checkpoint) (held : Holding) → kept_at n x.table ≡ Some c
         → HoldsTree (pages_shown x) (root_of (checkpoint_root c)) held → P held
 
-  step : (x : Shown) (c : Commit) → IsImage x → IsNext x c → Shows x → Shows (applied x c)
+  step : (x : Shown) (c : Commit) → IsShownImage x → IsNext x c → Shows x → Shows (applied x c)
   step x c image next shows =
       let at = behind x c n shows.given next in
       record {
@@ -162,20 +162,20 @@ module _ (n : ℕ) (P : Holding → Type 0) where
 
   -- ---- all that come
 
-  steps : (x : Shown) (more : List Commit) → IsImage x → AllNext x more → Shows x
+  steps : (x : Shown) (more : List Commit) → IsShownImage x → AllNext x more → Shows x
       → Shows (fold applied x more)
   steps x [] image next shows = shows
   steps x (c ∷ more) image next shows =
       steps (applied x c) more next.0.image next.1 (step x c image next.0 shows)
 
   pub shows_on : (log later : List Commit) → IsHistory log → IsHistory later → IsPrefix log later
-      → Shows (image_of log) → Shows (image_of later)
+      → Shows (shown_after log) → Shows (shown_after later)
   shows_on log later began history prefix shows =
       let whole : IsHistory (log ++ prefix.0) = subst IsHistory (sym prefix.1) history in
       let after =
-      steps (image_of log) prefix.0 (history_image log began) (rest_of log prefix.0 whole began) shows in
-      let at : fold applied (image_of log) prefix.0 ≡ image_of later =
-      sym (fold-grows nothing log prefix.0) ∙ ap image_of prefix.1 in
+      steps (shown_after log) prefix.0 (history_image log began) (rest_of log prefix.0 whole began) shows in
+      let at : fold applied (shown_after log) prefix.0 ≡ shown_after later =
+      sym (fold-grows nothing log prefix.0) ∙ ap shown_after prefix.1 in
       subst Shows at after
 
 module _ (n inode index : ℕ) (page : List ℕ) where
@@ -185,7 +185,7 @@ module _ (n inode index : ℕ) (page : List ℕ) where
   page_stays : (log later : List Commit) → IsHistory later → IsPrefix log later
       → IsCachedPage log n inode index page → IsCachedPage later n inode index page
   page_stays log later history prefix cached =
-      let shows : Shows n HasBlock (image_of log) = record { given = cached.given; held = cached.block } in
+      let shows : Shows n HasBlock (shown_after log) = record { given = cached.given; held = cached.block } in
       let now = shows_on n HasBlock log later cached.history history prefix shows in
       record { history = history; given = now.given; block = now.held }
 
@@ -246,14 +246,14 @@ pub kept_trees_stay : KeptTreesStay
 kept_trees_stay log later n t c history begun prefix tree is =
     let whole : IsHistory (log ++ prefix.0) =
     subst IsHistory (sym prefix.1) (begun_on log later begun prefix history) in
-    let table = (image_of log).table in
-    let has : HasTree n t (image_of log) = record {
+    let table = (shown_after log).table in
+    let has : HasTree n t (shown_after log) = record {
       given =
           kept_low table.earlier table.latest (history_image log history).table.rising n tree.checkpoint
           tree.kept;
       tree = λ d kept. tree;
     } in
-    let after = trees_on n t (image_of log) prefix.0 (rest_of log prefix.0 whole history) has in
-    let at : fold applied (image_of log) prefix.0 ≡ image_of later =
-    sym (fold-grows nothing log prefix.0) ∙ ap image_of prefix.1 in
+    let after = trees_on n t (shown_after log) prefix.0 (rest_of log prefix.0 whole history) has in
+    let at : fold applied (shown_after log) prefix.0 ≡ shown_after later =
+    sym (fold-grows nothing log prefix.0) ∙ ap shown_after prefix.1 in
     (subst (HasTree n t) at after).tree c is

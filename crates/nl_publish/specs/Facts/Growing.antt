@@ -3,7 +3,7 @@ use Rattle.std.proofs.Common.{◌≡◌, List, [], ◌∷◌, ◌++◌, fold, re
 use Rattle.nl_commit.specs.declared.commit.Commit.{Commit}
 use Rattle.nl_commit.specs.Shown.{Shown}
 use Rattle.nl_commit.specs.Shown.{whole_of}
-use Rattle.nl_commit.specs.Commits.{AllNext, IsHistory, applied, image_of}
+use Rattle.nl_commit.specs.Commits.{AllNext, IsHistory, applied, shown_after}
 use Rattle.nl_commit.specs.declared.commit.Commit.TheVariants as commit
 use Rattle.nl_publish.specs.Histories.{IsBegun}
 
@@ -24,7 +24,7 @@ all_start x [] ys h = tt
 all_start x (c ∷ xs) ys h = (h.0, all_start (applied x c) xs ys h.1)
 
 -- a history goes on by commits that may follow
-pub history_more : (log more : List Commit) → IsHistory log → AllNext (image_of log) more
+pub history_more : (log more : List Commit) → IsHistory log → AllNext (shown_after log) more
     → IsHistory (log ++ more)
 history_more [] more h next = absurd h
 history_more (commit.Whole w ∷ log) more h next = (h.0, all_more (whole_of w) log more h.1 next)

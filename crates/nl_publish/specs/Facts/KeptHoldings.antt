@@ -6,7 +6,7 @@ use Rattle.nl_files.specs.CheckpointTrees.{HoldsTree}
 use Rattle.nl_files.specs.Facts.Holdings.{roots-hold_one}
 use Rattle.nl_cpfile.specs.Tables.{kept_at, checkpoint_root}
 use Rattle.nl_cpfile.specs.declared.checkpoint.Checkpoint.{Checkpoint}
-use Rattle.nl_commit.specs.Commits.{IsHistory, applied, image_of}
+use Rattle.nl_commit.specs.Commits.{IsHistory, applied, shown_after}
 use Rattle.nl_commit.specs.Shown.{Shown, mounted_on, pages_shown}
 use Rattle.nl_commit.specs.declared.commit.Commit.{Commit}
 use Rattle.nl_commit.specs.declared.commit.Commit.TheVariants as commit
@@ -30,12 +30,12 @@ one_held x n c held now at kept holds =
 
 pub kept_holdings_stay : KeptHoldingsStay
 kept_holdings_stay log later n held now history begun prefix was at =
-    let table = (image_of log).table in
-    let shows : Shows n (λ h. h ≡ held) (image_of log) = record {
+    let table = (shown_after log).table in
+    let shows : Shows n (λ h. h ≡ held) (shown_after log) = record {
       given =
           kept_low table.earlier table.latest (history_image log history).table.rising n was.checkpoint
           was.kept;
-      held = λ c h kept holds. one_held (image_of log) n c held h was kept holds;
+      held = λ c h kept holds. one_held (shown_after log) n c held h was kept holds;
     } in
     (shows_on n (λ h. h ≡ held) log later history (begun_on log later begun prefix history) prefix shows).held
     at.checkpoint now at.kept at.holds
@@ -50,10 +50,10 @@ mounts_hold m claim begun =
     begun_more claim.0 c (subst IsBegun claim.1 begun) in
     let history : IsHistory m.told.commits = subst IsHistory (sym claim.1) ends in
     let new = new_mount claim.0 m.number m.checkpoint ends in
-    let shown : image_of m.told.commits ≡ applied (image_of claim.0) c = ap image_of claim.1 ∙ new.grown in
-    let mounted : mounted_on (image_of m.told.commits) m.number ≡ Some m.checkpoint =
+    let shown : shown_after m.told.commits ≡ applied (shown_after claim.0) c = ap shown_after claim.1 ∙ new.grown in
+    let mounted : mounted_on (shown_after m.told.commits) m.number ≡ Some m.checkpoint =
     ap (λ (x : Shown). mounted_on x m.number) shown
-    ∙ found_pushed m.number m.checkpoint (image_of claim.0).mounts new.none in
+    ∙ found_pushed m.number m.checkpoint (shown_after claim.0).mounts new.none in
     let image = history_image m.told.commits history in
     let kept = image.mounted m.number m.checkpoint mounted in
     let tree = image.trees m.checkpoint kept.0 kept.1 in (

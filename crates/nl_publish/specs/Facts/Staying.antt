@@ -6,10 +6,10 @@ use Rattle.std.specs.List.{filter}
 use Rattle.std.specs.Ordering.{nat_cmp}
 use Rattle.std.specs.FinMap.{find}
 use mathlib.Core.List.{IsPrefix}
-use Rattle.nl_types.specs.Trees.{Tree}
+use Rattle.nl_types.specs.Plain.Trees.{Tree}
 use Rattle.nl_cpfile.specs.Tables.{kept_at}
 use Rattle.nl_cpfile.specs.declared.checkpoint.Checkpoint.{Checkpoint}
-use Rattle.nl_commit.specs.Commits.{AllNext, IsHistory, IsImage, IsNext, IsNew, applied, image_of}
+use Rattle.nl_commit.specs.Commits.{AllNext, IsHistory, IsShownImage, IsNext, IsNew, applied, shown_after}
 use Rattle.nl_commit.specs.Shown.{Shown, mounted_on, whole_of, nothing}
 use Rattle.nl_commit.specs.Volume.{is_other_mount, mount_of}
 use Rattle.nl_commit.specs.declared.commit.Commit.{Commit}
@@ -22,11 +22,11 @@ use Rattle.nl_publish.specs.Facts.Growing.{begun_more, fold-grows, history_start
 
 -- ---- images
 
-all_images : (x : Shown) (log : List Commit) → IsImage x → AllNext x log → IsImage (fold applied x log)
+all_images : (x : Shown) (log : List Commit) → IsShownImage x → AllNext x log → IsShownImage (fold applied x log)
 all_images x [] h next = h
 all_images x (c ∷ log) h next = all_images (applied x c) log next.0.image next.1
 
-pub history_image : (log : List Commit) → IsHistory log → IsImage (image_of log)
+pub history_image : (log : List Commit) → IsHistory log → IsShownImage (shown_after log)
 history_image [] h = absurd h
 history_image (commit.Whole w ∷ log) h = all_images (whole_of w) log h.0 h.1
 history_image (commit.Written w ∷ log) h = absurd h
@@ -216,7 +216,7 @@ shows_all first m k x (c ∷ log) next still =
     shows_all first m k (applied x c) log next.1 (shows_on first m k x c next.0 still)
 
 -- a mount that is found later too shows the checkpoint that it showed
-pub mount_is_same : (x : Shown) (log : List Commit) (m n k : ℕ) → IsImage x → AllNext x log
+pub mount_is_same : (x : Shown) (log : List Commit) (m n k : ℕ) → IsShownImage x → AllNext x log
     → mounted_on x m ≡ Some n → mounted_on (fold applied x log) m ≡ Some k → k ≡ n
 mount_is_same x log m n k image next was is =
     let first : ShowsStill x m n x = record {
@@ -233,7 +233,7 @@ all_rest x [] ys h = h
 all_rest x (c ∷ xs) ys h = all_rest (applied x c) xs ys h.1
 
 pub rest_of : (log more : List Commit) → IsHistory (log ++ more) → IsHistory log
-    → AllNext (image_of log) more
+    → AllNext (shown_after log) more
 rest_of [] more h begun = absurd begun
 rest_of (commit.Whole w ∷ log) more h begun = all_rest (whole_of w) log more h.1
 rest_of (commit.Written w ∷ log) more h begun = absurd h
@@ -254,10 +254,10 @@ begun_is (x ∷ log) c mount is h begun = begun
 
 -- the commit of a mount comes behind a history that has none of its number
 pub record IsNewMount (before : List Commit) (m k : ℕ) : Type 0 where
-  pub next : IsNext (image_of before) (commit.Mounted (record { number = m; checkpoint = k }))
-  pub none : (n : ℕ) → mounted_on (image_of before) m ≡ Some n → ⊥
-  pub grown : image_of (before ++ commit.Mounted (record { number = m; checkpoint = k }) ∷ [])
-      ≡ applied (image_of before) (commit.Mounted (record { number = m; checkpoint = k }))
+  pub next : IsNext (shown_after before) (commit.Mounted (record { number = m; checkpoint = k }))
+  pub none : (n : ℕ) → mounted_on (shown_after before) m ≡ Some n → ⊥
+  pub grown : shown_after (before ++ commit.Mounted (record { number = m; checkpoint = k }) ∷ [])
+      ≡ applied (shown_after before) (commit.Mounted (record { number = m; checkpoint = k }))
 
 pub new_mount : (before : List Commit) (m k : ℕ)
     → IsHistory (before ++ commit.Mounted (record { number = m; checkpoint = k }) ∷ [])
@@ -267,7 +267,7 @@ new_mount before m k h =
     let begun : IsHistory before =
     begun_is before c (record { number = m; checkpoint = k }) refl h
     (history_start before (c ∷ []) h) in
-    let next : IsNext (image_of before) c = (rest_of before (c ∷ []) h begun).0 in
+    let next : IsNext (shown_after before) c = (rest_of before (c ∷ []) h begun).0 in
     record {
       next = next;
       none = λ n is. absurd (omega (arith, (history_image before begun).given m n is, next.new));
@@ -276,11 +276,11 @@ new_mount before m k h =
 
 shows_first : (before : List Commit) (m k : ℕ)
     → IsHistory (before ++ commit.Mounted (record { number = m; checkpoint = k }) ∷ [])
-    → ShowsStill (image_of (before ++ commit.Mounted (record { number = m; checkpoint = k }) ∷ [])) m k
-    (image_of (before ++ commit.Mounted (record { number = m; checkpoint = k }) ∷ []))
+    → ShowsStill (shown_after (before ++ commit.Mounted (record { number = m; checkpoint = k }) ∷ [])) m k
+    (shown_after (before ++ commit.Mounted (record { number = m; checkpoint = k }) ∷ []))
 shows_first before m k h =
     let c : Commit = commit.Mounted (record { number = m; checkpoint = k }) in
-    let x : Shown = image_of before in
+    let x : Shown = shown_after before in
     let new = new_mount before m k h in
     subst (λ (y : Shown). ShowsStill y m k y) (sym new.grown) (record {
       given = omega arith;
@@ -289,7 +289,7 @@ shows_first before m k h =
     })
 
 pub mount_stays : (m : Claim) (log : List Commit) (n : ℕ) → IsClaim m → IsHistory log
-    → IsPrefix m.told.commits log → mounted_on (image_of log) m.number ≡ Some n → ShowsTold m log n
+    → IsPrefix m.told.commits log → mounted_on (shown_after log) m.number ≡ Some n → ShowsTold m log n
 mount_stays m log n claim history prefix is =
     let told = m.told.commits in
     let c : Commit = commit.Mounted (record { number = m.number; checkpoint = m.checkpoint }) in
@@ -299,15 +299,15 @@ mount_stays m log n claim history prefix is =
     let begun : IsHistory (claim.0 ++ c ∷ []) =
     begun_more claim.0 c (history_start (claim.0 ++ c ∷ []) prefix.0 ends) in
     let first =
-    subst (λ (l : List Commit). ShowsStill (image_of l) m.number m.checkpoint (image_of l))
+    subst (λ (l : List Commit). ShowsStill (shown_after l) m.number m.checkpoint (shown_after l))
     (sym claim.1)
     (shows_first claim.0 m.number m.checkpoint begun) in
-    let next : AllNext (image_of told) prefix.0 =
+    let next : AllNext (shown_after told) prefix.0 =
     rest_of told prefix.0 whole (subst IsHistory (sym claim.1) begun) in
-    let all = shows_all (image_of told) m.number m.checkpoint (image_of told) prefix.0 next first in
-    let at : fold applied (image_of told) prefix.0 ≡ image_of log =
-    sym (fold-grows nothing told prefix.0) ∙ ap image_of prefix.1 in
-    let still = subst (λ (y : Shown). ShowsStill (image_of told) m.number m.checkpoint y) at all in
+    let all = shows_all (shown_after told) m.number m.checkpoint (shown_after told) prefix.0 next first in
+    let at : fold applied (shown_after told) prefix.0 ≡ shown_after log =
+    sym (fold-grows nothing told prefix.0) ∙ ap shown_after prefix.1 in
+    let still = subst (λ (y : Shown). ShowsStill (shown_after told) m.number m.checkpoint y) at all in
     let shows = still.shows n is in
     record { checkpoint = shows.0; trees = shows.1 }
 
@@ -343,14 +343,14 @@ mount_begins m log claim begun history prefix less =
     let first : IsPrefix log before =
     prefix_before log before c (subst (λ (l : List Commit). IsPrefix log l) claim.1 prefix)
     (subst (λ (l : List Commit). length log < length l) claim.1 less) in
-    let next : AllNext (image_of log) first.0 =
+    let next : AllNext (shown_after log) first.0 =
     rest_of log first.0 (subst IsHistory (sym first.1) was) history in
-    let at : fold applied (image_of log) first.0 ≡ image_of before =
-    sym (fold-grows nothing log first.0) ∙ ap image_of first.1 in
-    let up : (image_of log).given ≤ (image_of before).given =
-    subst (λ (y : Shown). (image_of log).given ≤ y.given) at
-    (given_all (image_of log) first.0 (image_of log).given next (omega arith)) in
-    not_some (mounted_on (image_of log) m.number)
+    let at : fold applied (shown_after log) first.0 ≡ shown_after before =
+    sym (fold-grows nothing log first.0) ∙ ap shown_after first.1 in
+    let up : (shown_after log).given ≤ (shown_after before).given =
+    subst (λ (y : Shown). (shown_after log).given ≤ y.given) at
+    (given_all (shown_after log) first.0 (shown_after log).given next (omega arith)) in
+    not_some (mounted_on (shown_after log) m.number)
     (λ n is.
     let low = (history_image log history).given m.number n is in
     let above = new.next.new in

@@ -2,7 +2,7 @@
 use Rattle.std.proofs.Common.{◌≡◌, ℕ, false, List, inl, inr, ap, ◌∙◌, length}
 use Rattle.std.proofs.lemmas.List.{get_or-set_other}
 use Rattle.nl_types.specs.declared.error.VolError.TheVariants.{Fault, Memory, NoSpace}
-use Rattle.nl_types.specs.Segments.{Segments, IsClosed, clean_info, info_of}
+use Rattle.nl_types.specs.Blocks.Segments.{Segments, IsClosed, clean_info, info_of}
 use Rattle.nl_types.specs.Facts.ClosedSegments.{closed-stay, closed-stay-at-faults}
 use Rattle.nl_space.specs.Content.{Payload}
 use Rattle.nl_vstore.specs.Stores.{Store, IsStore, IsFaulted, KeepsStored}

@@ -7,8 +7,8 @@ use Rattle.nl_types.specs.declared.error.VolError.{VolError}
 use Rattle.nl_types.specs.declared.segment.SegmentInfo.{SegmentInfo}
 use Rattle.nl_types.specs.declared.segment.SegmentState.{SegmentState}
 use Rattle.nl_types.specs.declared.segment.SegmentState.TheVariants.{Dirty}
-use Rattle.nl_types.specs.Segments.{Segments, clean_info, info_of, is_closed}
-use Rattle.nl_types.specs.Entries.{is_needed}
+use Rattle.nl_types.specs.Blocks.Segments.{Segments, clean_info, info_of, is_closed}
+use Rattle.nl_types.specs.Blocks.Entries.{is_needed}
 use Rattle.nl_vstore.specs.Stores.{IsStore, IsReclaimed}
 use Rattle.nl_vstore.specs.Located.{numbers_in}
 use Rattle.nl_vstore.specs.Facts.MovedNumbers.{first-moved, others-kept}

@@ -4,10 +4,10 @@ use Rattle.std.specs.Prelude.{◌||◌, is_none}
 use Rattle.std.specs.List.{list_any}
 use Rattle.std.specs.Option.{option_map}
 use Rattle.std.proofs.lemmas.Bool.{cases_Bool, eqb-true, both_ways}
-use Rattle.nl_types.specs.Entries.{Content, Entry, covers, is_needed}
-use Rattle.nl_types.specs.NumberLists.{is_one_of}
+use Rattle.nl_types.specs.Blocks.Entries.{Content, Entry, covers, is_needed}
+use Rattle.nl_types.specs.Plain.NumberLists.{is_one_of}
 use Rattle.nl_types.specs.Facts.PartialMaps.{or_false}
-use Rattle.nl_types.specs.Lifetimes.{Allowed, Ledger, Frees}
+use Rattle.nl_types.specs.Blocks.Lifetimes.{Allowed, Ledger, Frees}
 use Rattle.nl_vstore.specs.Stores.{IsStore, Numbered, address_in, block_now, content_in, entry_now, is_inside, numbered_in}
 use Rattle.nl_vstore.specs.Located.{entry_needed}
 use Rattle.nl_vstore.specs.Facts.NumberAt.{needed-member}

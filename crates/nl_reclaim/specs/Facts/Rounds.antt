@@ -6,9 +6,9 @@ use Rattle.std.proofs.lemmas.Bool.{cases_Bool, eqb-true, both_ways}
 use Rattle.nl_types.specs.declared.segment.SegmentInfo.{SegmentInfo}
 use Rattle.nl_types.specs.declared.segment.SegmentState.{SegmentState}
 use Rattle.nl_types.specs.declared.segment.SegmentState.TheVariants.{Clean, Dirty, Active, Error}
-use Rattle.nl_types.specs.Segments.{Segments, IsUsed, is_clean}
-use Rattle.nl_types.specs.Entries.{Entry, is_needed}
-use Rattle.nl_types.specs.NumberLists.{is_one_of}
+use Rattle.nl_types.specs.Blocks.Segments.{Segments, IsUsed, is_clean}
+use Rattle.nl_types.specs.Blocks.Entries.{Entry, is_needed}
+use Rattle.nl_types.specs.Plain.NumberLists.{is_one_of}
 use Rattle.nl_types.specs.Facts.SegmentChanges.{room_of, tidy_at}
 use Rattle.nl_vstore.specs.Stores.{Numbered, Store, IsStore, address_in, block_now, content_in, entry_now, is_inside, numbered_in}
 use Rattle.nl_vstore.specs.Located.{entry_needed, needs}

@@ -1,13 +1,13 @@
 -- Lines on a volume, and on one that simulates it.
 use Rattle.std.proofs.Common.{◌≡◌, ◌∙◌, ℕ, ◌+◌, List, [], ◌∷◌, Some, None, Ok, Err, ap, refl, sym, subst, inl, inr}
-use Rattle.nl_types.specs.Runs.{Run}
-use Rattle.nl_types.specs.Worlds.{Reply}
+use Rattle.nl_types.specs.Plain.Runs.{Run}
+use Rattle.nl_types.specs.Plain.Worlds.{Reply}
 use Rattle.nl_types.specs.declared.event.Event.{Event}
 use Rattle.nl_commands.specs.LineMeanings.{LineRead}
 use Rattle.nl_commands.specs.declared.command.Command.{Command}
 use Rattle.nl_commands.specs.declared.command.Command.TheVariants.{At, Catm, Clean, Lssu}
 use Rattle.nl_commands.specs.declared.error.LineError.TheVariants.{Usage, Memory}
-use Rattle.nl_protect.specs.declared.config.Config.{Config}
+use Rattle.nl_config.specs.declared.config.Config.{Config}
 use Rattle.nl_commit.specs.Layout.{Layout}
 use Rattle.nl_script.specs.Simulations.{IsSimulation, LinesAreSimulated}
 use Rattle.nl_script.specs.Habits.{Habits}

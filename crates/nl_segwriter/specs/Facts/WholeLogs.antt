@@ -10,8 +10,8 @@ use Rattle.nl_types.specs.declared.segment.Log.{Log}
 use Rattle.nl_types.specs.declared.segment.SegmentInfo.{SegmentInfo}
 use Rattle.nl_types.specs.declared.segment.SegmentState.{SegmentState}
 use Rattle.nl_types.specs.declared.segment.SegmentState.TheVariants.{Clean, Dirty, Active, Error}
-use Rattle.nl_types.specs.Segments.{AreTidy, HaveLogs, IsUsed, Segments, at_rest, clean_info, has_logs, info_of, none_active, with_clean, with_error}
-use Rattle.nl_types.specs.Placing.{end_of, first_block, IsNextLog, with_log}
+use Rattle.nl_types.specs.Blocks.Segments.{AreTidy, HaveLogs, IsUsed, Segments, at_rest, clean_info, has_logs, info_of, none_active, with_clean, with_error}
+use Rattle.nl_types.specs.Blocks.Placing.{end_of, first_block, IsNextLog, with_log}
 use Rattle.nl_types.specs.Facts.SegmentChanges.{length-none_active, info_same, used_same, used_other, room_of}
 use Rattle.nl_types.specs.Facts.UsedParts.{outside_row, outside_segment, used_row, stays_with_log, stays_with_error}
 use Rattle.nl_device.specs.Pages.{DevicePages, ClearsBlocks}

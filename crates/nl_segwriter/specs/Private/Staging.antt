@@ -1,6 +1,6 @@
 -- Logs that are ready to be written.
 use Rattle.std.specs.Prelude.{◌≡◌, ℕ, ◌≤◌, List, [], ◌∷◌, length, map, take, drop}
-use Rattle.nl_types.specs.Limits.{log_limit}
+use Rattle.nl_types.specs.Plain.Limits.{log_limit}
 use Rattle.nl_types.specs.declared.segment.Log.{Log}
 use Rattle.nl_layout.specs.Summary.{SummaryHasSpelling, summary_bytes}
 use Rattle.nl_segwriter.specs.declared.staging.Staged.{Staged}

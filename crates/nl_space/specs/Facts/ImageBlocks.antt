@@ -5,7 +5,7 @@ use Rattle.std.proofs.lemmas.Bool.{cases_lt, lt-ltb, ltb-true}
 use Rattle.std.proofs.lemmas.List.{drop-drop}
 use Rattle.std.proofs.lemmas.List.Concat.{flat_map-append}
 use borrow.Rule.Slice.PartMut.{put_mid}
-use Rattle.nl_types.specs.Segments.{Segments, IsUsed}
+use Rattle.nl_types.specs.Blocks.Segments.{Segments, IsUsed}
 use Rattle.nl_types.specs.Facts.EqualPieces.{put_mid-seam}
 use Rattle.nl_space.specs.Content.{SpaceContent}
 use Rattle.nl_space.specs.Images.{IsPageOf, IsRestAt, IsRestZero, page_bytes, pages_of_bytes, zero_page}

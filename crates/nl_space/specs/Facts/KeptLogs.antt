@@ -1,7 +1,7 @@
 -- Logs stay where their blocks do.
 use Rattle.std.proofs.Common.{◌≡◌, ℕ, ◌+◌, ◌-◌, ◌*◌, ◌<◌, ◌≤◌, List, [], ◌∷◌, length, ap, sym, ◌∙◌, arith}
 use Rattle.std.proofs.lemmas.List.{length-map}
-use Rattle.nl_types.specs.Segments.{IsUsed, info_of}
+use Rattle.nl_types.specs.Blocks.Segments.{IsUsed, info_of}
 use Rattle.nl_device.specs.Pages.{DevicePages}
 use Rattle.nl_space.specs.Content.{SpaceContent, HeldPayload, payload_page, IsSameAt}
 use Rattle.nl_space.specs.Logs.{WholeLog, StandsFrom, FillUpTo, IsFilledBy}

@@ -3,8 +3,8 @@ use Rattle.std.proofs.Common.{◌≡◌, ℕ, ◌+◌, ◌*◌, ◌≤◌, List,
 use Rattle.std.proofs.Math.Nat.{mul-le-mul_right}
 use Rattle.std.specs.List.{AllByRecursion}
 use Rattle.nl_types.specs.declared.segment.Log.{Log}
-use Rattle.nl_types.specs.Segments.{Segments, total_blocks}
-use Rattle.nl_types.specs.Placing.{AreNextLogs, first_block, with_log}
+use Rattle.nl_types.specs.Blocks.Segments.{Segments, total_blocks}
+use Rattle.nl_types.specs.Blocks.Placing.{AreNextLogs, first_block, with_log}
 use Rattle.nl_types.specs.Facts.NextLogs.{length-with_log}
 
 -- the numbers of logs are numbers of the device

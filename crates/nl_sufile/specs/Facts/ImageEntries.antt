@@ -5,7 +5,7 @@ use Rattle.std.proofs.lemmas.List.{get_or_past, take_more}
 use Rattle.std.proofs.lemmas.List.Elements.{All-from_get_or, All-from_recursion, All-weaker, recursion_from_All}
 use Rattle.nl_types.specs.declared.geometry.Geometry.{Geometry}
 use Rattle.nl_types.specs.declared.segment.SegmentInfo.{SegmentInfo}
-use Rattle.nl_types.specs.Segments.{Segments, IsTidy, clean_info, has_logs, info_of, is_active}
+use Rattle.nl_types.specs.Blocks.Segments.{Segments, IsTidy, clean_info, has_logs, info_of, is_active}
 use Rattle.nl_types.specs.Facts.EqualPieces.{HaveWidth, piece_at}
 use Rattle.nl_layout.specs.Segment.{segment_bytes}
 use Rattle.nl_sufile.specs.Images.{AreEntriesOf, HaveOneActive, IsEntryAt, IsSoundSegment, IsSufileOf}

@@ -1,7 +1,7 @@
 -- What a table keeps of its clean segments.
 use Rattle.std.specs.Prelude.{◌≡◌, ℕ, ◌+◌, ◌<◌, false, List, ◌∷◌, drop, length}
 use Rattle.nl_types.specs.declared.segment.SegmentInfo.{SegmentInfo}
-use Rattle.nl_types.specs.Segments.{clean_from, info_of, is_clean}
+use Rattle.nl_types.specs.Blocks.Segments.{clean_from, info_of, is_clean}
 use Rattle.nl_sufile.specs.declared.clean.CleanSegments.{CleanSegments}
 
 -- as many are clean, and none below the mark

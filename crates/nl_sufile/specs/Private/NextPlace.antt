@@ -1,7 +1,7 @@
 -- Where the next log begins, and which segments are free then.
 use Rattle.std.specs.Prelude.{◌≡◌, ℕ, Bool, true, false, List, [], ◌∷◌, Option, Some}
 use Rattle.nl_types.specs.declared.segment.Position.{Position}
-use Rattle.nl_types.specs.Placing.{has_room}
+use Rattle.nl_types.specs.Blocks.Placing.{has_room}
 
 -- nowhere: nothing has room, and nothing is free
 pub record IsNowhere (blocks : ℕ) (left : Option Position) (free : List ℕ) : Type 0 where
@@ -22,6 +22,6 @@ pub record IsTaken (blocks : ℕ) (left : Option Position) (free : List ℕ) (pl
   pub segment : free ≡ place.segment ∷ rest
   pub block : place.block ≡ 0
 
-abbrev pub IsNext : Bool → ℕ → Option Position → List ℕ → Position → List ℕ → Type 0
-IsNext true blocks left free place rest = IsLeft blocks left free place rest
-IsNext false blocks left free place rest = IsTaken blocks left free place rest
+abbrev pub IsNextPlace : Bool → ℕ → Option Position → List ℕ → Position → List ℕ → Type 0
+IsNextPlace true blocks left free place rest = IsLeft blocks left free place rest
+IsNextPlace false blocks left free place rest = IsTaken blocks left free place rest

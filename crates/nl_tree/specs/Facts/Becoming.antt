@@ -11,8 +11,8 @@ use Rattle.std.specs.Map.{keys_of}
 use Rattle.std.specs.BTreeMap as map
 use Rattle.std.proofs.lemmas.Bool.{cases_eq, cases_lt, leb-true, ltb-true}
 use Rattle.std.proofs.lemmas.Map.Keys.{sorted_head, sorted_tail}
-use Rattle.nl_types.specs.Limits.{name_limit}
-use Rattle.nl_types.specs.Paths.{is_name}
+use Rattle.nl_types.specs.Plain.Limits.{name_limit}
+use Rattle.nl_types.specs.Plain.Paths.{is_name}
 use Rattle.nl_dirs.specs.declared.record.Record.{Record}
 use Rattle.nl_dirs.specs.Records.{RecordHasSpelling}
 use Rattle.nl_tree.specs.declared.overlay.Changed.{Changed}

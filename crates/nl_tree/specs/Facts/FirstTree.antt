@@ -3,8 +3,8 @@ use Rattle.std.proofs.Common.{◌≡◌, ◌⊎◌, ◌≤◌, ℕ, List, [], Op
 use Rattle.std.proofs.lemmas.Bool.{cases_eq}
 use Rattle.std.specs.Prelude.{IsTrue, length}
 use Rattle.std.specs.List.{All}
-use Rattle.nl_types.specs.Paths.{is_name}
-use Rattle.nl_types.specs.Roots.{Blocks}
+use Rattle.nl_types.specs.Plain.Paths.{is_name}
+use Rattle.nl_types.specs.Blocks.Roots.{Blocks}
 use Rattle.nl_dirs.specs.declared.record.Record.{Record}
 use Rattle.nl_dirs.specs.Records.{NamesAscend}
 use Rattle.nl_tree.specs.Became.{Became, BecameDirectory, over_if_became}

@@ -12,9 +12,9 @@ use Rattle.nl_types.specs.declared.reply.Answer.{Answer}
 use Rattle.nl_types.specs.declared.reply.Answer.TheVariants as answer
 use Rattle.nl_types.specs.declared.reply.Named.{Named}
 use Rattle.nl_types.specs.declared.reply.Stat.TheVariants as status
-use Rattle.nl_types.specs.Paths.{Name, Path, path_of}
-use Rattle.nl_types.specs.Trees.{Tree}
-use Rattle.nl_types.specs.Calls.{IsUnlessMemory, ShowsUnlessMemory, and_then, list, read, stat}
+use Rattle.nl_types.specs.Plain.Paths.{Name, Path, path_of}
+use Rattle.nl_types.specs.Plain.Trees.{Tree}
+use Rattle.nl_types.specs.Plain.Calls.{IsUnlessMemory, ShowsUnlessMemory, and_then, list, read, stat}
 use Rattle.nl_types.specs.Inodes.{Inodes, Link, Records}
 use Rattle.nl_types.specs.Judging.{bytes_in, bytes_of, shown, stat_in}
 use Rattle.nl_types.specs.Resolving.{as_dir, resolve}

@@ -2,8 +2,8 @@
 use Rattle.std.specs.Prelude.{◌≡◌, ℕ, ◌≤◌, ◌<◌, Option, Some, None}
 use Rattle.std.specs.Ordering.{nat_cmp}
 use Rattle.std.specs.BTreeMap as map
-use Rattle.nl_types.specs.Limits.{file_block_limit}
-use Rattle.nl_types.specs.Roots.{Blocks}
+use Rattle.nl_types.specs.Plain.Limits.{file_block_limit}
+use Rattle.nl_types.specs.Blocks.Roots.{Blocks}
 use Rattle.nl_tree.specs.declared.overlay.FileBlocks.{FileBlocks}
 use Rattle.nl_tree.specs.declared.overlay.Changed.{Changed}
 use Rattle.nl_tree.specs.declared.overlay.Changed.TheVariants.{File}

@@ -2,14 +2,14 @@
 use Rattle.std.specs.Prelude.{◌≡◌, ◌≢◌, ℕ, ◌&&◌, true, false, List, Option, Some, Ok, Err}
 use Rattle.nl_types.specs.declared.error.VolError.{VolError}
 use Rattle.nl_types.specs.declared.reply.Answer.TheVariants as answer
-use Rattle.nl_types.specs.Paths.{Name, Path}
-use Rattle.nl_types.specs.Calls.{is_above, rename}
+use Rattle.nl_types.specs.Plain.Paths.{Name, Path}
+use Rattle.nl_types.specs.Plain.Calls.{is_above, rename}
 use Rattle.nl_types.specs.Inodes.{Link}
 use Rattle.nl_types.specs.Judging.{is_dir_kind, judge_rename}
-use Rattle.nl_types.specs.Trees.{Tree}
+use Rattle.nl_types.specs.Plain.Trees.{Tree}
 use Rattle.nl_dirs.specs.declared.record.Record.{Record}
 use Rattle.nl_tree.specs.declared.overlay.Overlay.{Overlay}
-use Rattle.nl_tree.specs.declared.renames.Move.{Move}
+use Rattle.nl_tree.specs.declared.renames.PlannedRename.{PlannedRename}
 use Rattle.nl_tree.specs.Held.{Holding, inodes_of_holding}
 use Rattle.nl_tree.specs.Naming.{IsPlaceOf, listing_of}
 use Rattle.nl_tree.specs.Overlays.{HasName, IsDirectoryOf}
@@ -42,23 +42,23 @@ pub record IsMove (held : Holding) (from to : Path) (directory : ℕ) (name : Na
       ≡ Ok true
 
 -- the same, of a move as the code has it
-abbrev pub FindsMove : Holding → Path → Path → Move → Type 0
+abbrev pub FindsMove : Holding → Path → Path → PlannedRename → Type 0
 FindsMove held from to m =
     IsMove held from to m.directory m.name.now m.link m.target.directory m.target.name.now m.target.link
 
 -- ---- what a move changes
 
 -- both directories of a move have these records
-abbrev pub AreDirectoriesOf : Move → Holding → List Record → List Record → Type 0
+abbrev pub AreDirectoriesOf : PlannedRename → Holding → List Record → List Record → Type 0
 AreDirectoriesOf m held all others =
     IsDirectoryOf held m.directory all × IsDirectoryOf held m.target.directory others
 
 -- with places for the name that is moved, and for the new one
-abbrev pub HasNamesOf : Move → Overlay → List Record → List Record → Type 0
+abbrev pub HasNamesOf : PlannedRename → Overlay → List Record → List Record → Type 0
 HasNamesOf m o all others =
     HasName o m.directory all m.name.now × HasName o m.target.directory others m.target.name.now
 
 -- what inodes hold once the record is moved
-abbrev pub with_moved : Move → List Record → List Record → Holding → Holding
+abbrev pub with_moved : PlannedRename → List Record → List Record → Holding → Holding
 with_moved m all others held = with_link_moved m.directory all m.name.now m.target.directory others
     (record { name = m.target.name.now; inode = m.link.0; kind = m.link.1 }) held

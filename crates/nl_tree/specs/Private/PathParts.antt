@@ -1,8 +1,8 @@
 -- The bytes of a path, part by part.
 use Rattle.std.specs.Prelude.{◌≡◌, ◌≢◌, ℕ, ◌<◌, ◌==◌, if◌then◌else◌, List, [], ◌∷◌, ◌++◌, length, take, slice_index, All}
 use Rattle.std.specs.List.{slice_split}
-use Rattle.nl_types.specs.Characters.{slash}
-use Rattle.nl_types.specs.Paths.{Path}
+use Rattle.nl_types.specs.Plain.Characters.{slash}
+use Rattle.nl_types.specs.Plain.Paths.{Path}
 
 -- bytes with no slash
 abbrev pub IsOnePart : List ℕ → Type 0

@@ -9,7 +9,7 @@ use nl_lib::{
     change_cpmode, checkpoint, create, delete_checkpoint, list, listing, mkdir, read, remove,
     remove_checkpoints, rename, resize, rmdir, snapshot, stat, truncate, write,
 };
-use nl_types::{Answer, Ask, Change, CheckpointNumber, Event, Mode, Reply, VolError};
+use nl_types::{Answer, Ask, Change, CheckpointNumber, Event, Mode, Moment, Reply, VolError};
 use std::alloc::Global;
 use std::io;
 use std::io::Write;
@@ -187,7 +187,7 @@ impl Volume for Alone {
     }
 
     fn plan(&mut self, alloc: Global) -> Result<Job, VolError> {
-        plan(alloc, &self.pen, &config(), 0)
+        plan(alloc, &self.pen, &config(), Moment::new(0))
     }
 
     fn clean_step(&mut self, job: &mut Job) -> Option<Reply> {

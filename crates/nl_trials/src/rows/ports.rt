@@ -11,7 +11,8 @@ use nl_lib::Cleaned;
 use nl_mounts::{Port, Shared, is_mount_event};
 use nl_publish::{Mount, Volumes};
 use nl_types::{
-    Answer, Ask, CheckpointNumber, Event, MAX_PAYLOAD, MountNumber, Reply, Segment, VolError,
+    Answer, Ask, CheckpointNumber, Event, MAX_PAYLOAD, Moment, MountNumber, Reply, Segment,
+    VolError,
 };
 use std::alloc::Global;
 use std::sync::Wait;
@@ -183,7 +184,7 @@ impl<J: Volumes, R: Wait> Volume for Ported<'_, J, R> {
     }
 
     fn plan(&mut self, alloc: Global) -> Result<Job, VolError> {
-        self.shared.plan(self.rt, alloc, &config(), 0)
+        self.shared.plan(self.rt, alloc, &config(), Moment::new(0))
     }
 
     fn clean_step(&mut self, job: &mut Job) -> Option<Reply> {

@@ -14,10 +14,10 @@ use Rattle.std.proofs.lemmas.List.Folds.{list_all-append}
 use Rattle.std.proofs.lemmas.Map.Made.{length-le_from_is_member}
 use Rattle.nl_types.specs.declared.reply.Node.{Node}
 use Rattle.nl_types.specs.declared.reply.Node.TheVariants.{Dir, File}
-use Rattle.nl_types.specs.Limits.{file_limit, path_limit}
-use Rattle.nl_types.specs.Paths.{Name, Path, path_cmp, same_path, is_name}
-use Rattle.nl_types.specs.Placing.{blocks_from}
-use Rattle.nl_types.specs.Trees.{Tree, lookup, node_kind}
+use Rattle.nl_types.specs.Plain.Limits.{file_limit, path_limit}
+use Rattle.nl_types.specs.Plain.Paths.{Name, Path, path_cmp, same_path, is_name}
+use Rattle.nl_types.specs.Blocks.Placing.{blocks_from}
+use Rattle.nl_types.specs.Plain.Trees.{Tree, lookup, node_kind}
 use Rattle.nl_types.specs.Inodes.{Link, InodeContent, Bytes, Records, Inodes, MeansTree, upward}
 use Rattle.nl_types.specs.InodeLaws.{AreWithinLimits, LimitedInodesMeanTrees}
 use Rattle.nl_types.specs.Facts.TreeLaws.{path_total}

@@ -4,11 +4,11 @@ use Rattle.std.specs.Prelude.{◌||◌, ◌&&◌}
 use Rattle.std.specs.List.{Contains}
 use Rattle.std.specs.Option.{option_map}
 use Rattle.std.proofs.lemmas.Bool.{cases_Bool, eqb-true, eq-eqb, or_cases}
-use Rattle.nl_types.specs.Entries.{Birth, Content, Entry, GivenOnce, Place, birth_of, number_of, written, written_at}
-use Rattle.nl_types.specs.Lifetimes.{birth_at, is_same_place}
-use Rattle.nl_types.specs.NumberLists.{is_one_of}
-use Rattle.nl_types.specs.RootChanges.{with_births}
-use Rattle.nl_types.specs.Roots.{Pages, pages_of}
+use Rattle.nl_types.specs.Blocks.Entries.{Birth, Content, Entry, GivenOnce, Place, birth_of, number_of, written, written_at}
+use Rattle.nl_types.specs.Blocks.Lifetimes.{birth_at, is_same_place}
+use Rattle.nl_types.specs.Plain.NumberLists.{is_one_of}
+use Rattle.nl_types.specs.Blocks.RootChanges.{with_births}
+use Rattle.nl_types.specs.Blocks.Roots.{Pages, pages_of}
 use Rattle.nl_types.specs.Facts.PartialMaps.{same_at_all}
 use Rattle.nl_types.specs.Facts.WrittenEntries.{written-at}
 

@@ -8,11 +8,11 @@ use Rattle.nl_types.specs.declared.error.VolError.TheVariants as error
 use Rattle.nl_types.specs.declared.reply.Answer.TheVariants as answer
 use Rattle.nl_types.specs.declared.reply.Node.{Node}
 use Rattle.nl_types.specs.declared.reply.Node.TheVariants.{File}
-use Rattle.nl_types.specs.Limits.{file_limit, path_limit}
-use Rattle.nl_types.specs.Paths.{Path, path_cmp, same_path, is_within}
-use Rattle.nl_types.specs.Trees.{Tree, lookup, insert, remove, move_subtree}
-use Rattle.nl_types.specs.Calls.{Changed, and_then, refuse_if, tree_after, walk, node_at, file_at, dir_at, create, write, overwritten, resized, truncate, unlink, rmdir, has_names, is_root, is_dir, is_above, may_replace, rename}
-use Rattle.nl_types.specs.CallLaws.{CreatesAddOne, WritesChangeOne, EmptyWritesStay, TruncatesChangeOne, UnlinksRemoveOne, RmdirsRemoveOne, RenamesMoveSubtree, RenamedIsBelow, RenamesOntoThemselvesStay, SameLookupsAreOneTree, IsDone, CallsAnswerDone}
+use Rattle.nl_types.specs.Plain.Limits.{file_limit, path_limit}
+use Rattle.nl_types.specs.Plain.Paths.{Path, path_cmp, same_path, is_within}
+use Rattle.nl_types.specs.Plain.Trees.{Tree, lookup, insert, remove, move_subtree}
+use Rattle.nl_types.specs.Plain.Calls.{Changed, and_then, refuse_if, tree_after, walk, node_at, file_at, dir_at, create, write, overwritten, resized, truncate, unlink, rmdir, has_names, is_root, is_dir, is_above, may_replace, rename}
+use Rattle.nl_types.specs.Plain.CallLaws.{CreatesAddOne, WritesChangeOne, EmptyWritesStay, TruncatesChangeOne, UnlinksRemoveOne, RmdirsRemoveOne, RenamesMoveSubtree, RenamedIsBelow, RenamesOntoThemselvesStay, SameLookupsAreOneTree, IsDone, CallsAnswerDone}
 use Rattle.nl_types.specs.Facts.TreeLaws.{path_total, paths_equal, same_path-equal, lookup-insert}
 use Rattle.nl_types.specs.Facts.Judgements.{Leaves, and_then_holds, and_then_any, refuse_if_then, file_at_is}
 use Rattle.nl_types.specs.Facts.Lookups.{same_path-itself, is_within-append, lookup-remove}

@@ -12,12 +12,12 @@ use Rattle.nl_types.specs.declared.event.Change.TheVariants.{Create, Mkdir, Writ
 use Rattle.nl_types.specs.declared.reply.Answer.{Answer}
 use Rattle.nl_types.specs.declared.reply.Answer.TheVariants as answer
 use Rattle.nl_types.specs.declared.reply.Node.TheVariants.{Dir, File}
-use Rattle.nl_types.specs.Limits.{file_limit}
-use Rattle.nl_types.specs.Paths.{Path, path_of}
-use Rattle.nl_types.specs.Trees.{Tree, IsTree, insert}
-use Rattle.nl_types.specs.Calls.{Changed, and_then, refuse_if, tree_after, file_at, overwritten, rename, list, stat, change, is_dirtying, reply_to}
-use Rattle.nl_types.specs.CallLaws.{IsDone}
-use Rattle.nl_types.specs.Laws.{UncountedChangesStay}
+use Rattle.nl_types.specs.Plain.Limits.{file_limit}
+use Rattle.nl_types.specs.Plain.Paths.{Path, path_of}
+use Rattle.nl_types.specs.Plain.Trees.{Tree, IsTree, insert}
+use Rattle.nl_types.specs.Plain.Calls.{Changed, and_then, refuse_if, tree_after, file_at, overwritten, rename, list, stat, change, is_dirtying, reply_to}
+use Rattle.nl_types.specs.Plain.CallLaws.{IsDone}
+use Rattle.nl_types.specs.Plain.Laws.{UncountedChangesStay}
 use Rattle.nl_types.specs.Facts.Judgements.{and_then_holds, and_then_any, refuse_if_then, path_of_spells, Leaves}
 use Rattle.nl_types.specs.Facts.KeptTrees.{create-IsTree, write-IsTree, truncate-IsTree, unlink-IsTree, rmdir-IsTree, no_bytes, no_file}
 use Rattle.nl_types.specs.Facts.CallLookups.{stays, renames_onto_themselves_stay, calls_answer_done}

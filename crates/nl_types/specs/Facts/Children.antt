@@ -11,9 +11,9 @@ use Rattle.std.proofs.Common.{sym, ◌∙◌, ap, subst, T, arith}
 use Rattle.std.proofs.lemmas.Bool.{lt-ltb}
 use Rattle.nl_types.specs.declared.kind.Kind.{Kind}
 use Rattle.nl_types.specs.declared.reply.Node.{Node}
-use Rattle.nl_types.specs.Paths.{Name, Path, name_cmp, path_cmp, same_name, same_path}
-use Rattle.nl_types.specs.Trees.{Tree, lookup, children, name_below, node_kind}
-use Rattle.nl_types.specs.Calls.{has_names}
+use Rattle.nl_types.specs.Plain.Paths.{Name, Path, name_cmp, path_cmp, same_name, same_path}
+use Rattle.nl_types.specs.Plain.Trees.{Tree, lookup, children, name_below, node_kind}
+use Rattle.nl_types.specs.Plain.Calls.{has_names}
 use Rattle.nl_types.specs.Facts.TreeLaws.{same_path-equal}
 use Rattle.nl_types.specs.Facts.Lookups.{path_cmp-append, same_name-itself, same_name-equal}
 use Rattle.nl_types.specs.Facts.Booleans.{not_true, both, first, second}

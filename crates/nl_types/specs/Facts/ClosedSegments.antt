@@ -9,9 +9,9 @@ use Rattle.nl_types.specs.declared.segment.Log.{Log}
 use Rattle.nl_types.specs.declared.segment.SegmentInfo.{SegmentInfo}
 use Rattle.nl_types.specs.declared.segment.SegmentState.{SegmentState}
 use Rattle.nl_types.specs.declared.segment.SegmentState.TheVariants.{Clean, Dirty, Active, Error}
-use Rattle.nl_types.specs.Segments.{Segments, AreTidy, IsClosed, info_of, clean_info, is_clean, is_active, is_closed, at_rest, none_active, clean_segments, with_error}
-use Rattle.nl_types.specs.Placing.{IsNextLog, AreNextLogs, start_of, with_log, with_logs}
-use Rattle.nl_types.specs.PlacingLaws.{ClosedGetNoLog, ClosedStay, ClosedStayAtFaults}
+use Rattle.nl_types.specs.Blocks.Segments.{Segments, AreTidy, IsClosed, info_of, clean_info, is_clean, is_active, is_closed, at_rest, none_active, clean_segments, with_error}
+use Rattle.nl_types.specs.Blocks.Placing.{IsNextLog, AreNextLogs, start_of, with_log, with_logs}
+use Rattle.nl_types.specs.Blocks.PlacingLaws.{ClosedGetNoLog, ClosedStay, ClosedStayAtFaults}
 use Rattle.nl_types.specs.Facts.NextLogs.{tidy_with_log, has_active, has_lowest, placed}
 
 active-open : (state : SegmentState) → is_active state ≡ true → is_closed state ≡ true → ⊥

@@ -11,11 +11,11 @@ use Rattle.nl_types.specs.declared.reply.Answer.{Answer}
 use Rattle.nl_types.specs.declared.reply.Answer.TheVariants as answer
 use Rattle.nl_types.specs.declared.row.Range.{Range}
 use Rattle.nl_types.specs.declared.row.Row.{Row}
-use Rattle.nl_types.specs.Limits.{checkpoint_number_limit, mount_number_limit}
-use Rattle.nl_types.specs.Trees.{Tree}
-use Rattle.nl_types.specs.Calls.{change, is_dirtying, reply_to}
-use Rattle.nl_types.specs.Rows.{is_snapshot, kept_row, removal, range_removal, listing}
-use Rattle.nl_types.specs.Worlds.{World, Copy, Reply, Outcome, copy_at, latest, latest_stamp, rows, copies_with_mode, mounts_without, is_given_up, is_mounted, take_out, either, refused_if, is_moving, with_minor, expiry_of, kept_copy, mounted, mounted_copy, mount_read, step}
+use Rattle.nl_types.specs.Plain.Limits.{checkpoint_number_limit, mount_number_limit}
+use Rattle.nl_types.specs.Plain.Trees.{Tree}
+use Rattle.nl_types.specs.Plain.Calls.{change, is_dirtying, reply_to}
+use Rattle.nl_types.specs.Plain.Rows.{is_snapshot, kept_row, removal, range_removal, listing}
+use Rattle.nl_types.specs.Plain.Worlds.{World, Copy, Reply, Outcome, copy_at, latest, latest_stamp, rows, copies_with_mode, mounts_without, is_given_up, is_mounted, take_out, either, refused_if, is_moving, with_minor, expiry_of, kept_copy, mounted, mounted_copy, mount_read, step}
 use Rattle.nl_types.specs.Facts.Judgements.{and_then_any, ok_or_is}
 use Rattle.nl_types.specs.Facts.ChangeLaws.{IsNoMount, reply_gives_no_mount}
 use Rattle.nl_types.specs.Facts.ToldCopies.{IsTold, kept_row-told, MayBecome, MayGo, removal-may_go, range_of, range_removal-is}

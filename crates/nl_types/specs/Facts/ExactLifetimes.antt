@@ -3,10 +3,10 @@ use Rattle.std.proofs.Common.{◌≡◌, ℕ, ◌+◌, ◌≤◌, Bool, true, fa
 use Rattle.std.specs.Option.{option_and_then}
 use Rattle.std.specs.Prelude.{◌⊎◌}
 use Rattle.std.proofs.lemmas.Bool.{cases_Bool, eqb-true, eq-eqb, leb-true, le-leb, ltb-true, lt-ltb, and_parts, and_from, both_ways, ne_eqb}
-use Rattle.nl_types.specs.NumberLists.{is_one_of}
-use Rattle.nl_types.specs.Entries.{Place, Birth, Entry, Content, number_of, born_at, ended_at, covers, is_before_end, written, birth_of, written_at}
+use Rattle.nl_types.specs.Plain.NumberLists.{is_one_of}
+use Rattle.nl_types.specs.Blocks.Entries.{Place, Birth, Entry, Content, number_of, born_at, ended_at, covers, is_before_end, written, birth_of, written_at}
 use Rattle.nl_types.specs.Facts.WrittenEntries.{written-at, number_of-birth_of}
-use Rattle.nl_types.specs.Lifetimes.{Numbers, Ledger, LedgerEvent, IsBounded, IsLedger, EndsOnce, StillCovers, Makes, Forgets, Frees, numbers_at, numbers_after, born_or_left, unless_ended, birth_at, is_same_place, IsBatch, Allowed, EachAllowed, ledger_after, ledger_after_all, blank, IsExact, KeepsCovered}
+use Rattle.nl_types.specs.Blocks.Lifetimes.{Numbers, Ledger, LedgerEvent, IsBounded, IsLedger, EndsOnce, StillCovers, Makes, Forgets, Frees, numbers_at, numbers_after, born_or_left, unless_ended, birth_at, is_same_place, IsBatch, Allowed, EachAllowed, ledger_after, ledger_after_all, blank, IsExact, KeepsCovered}
 
 pub covers_parts : (c : ℕ) (e : Entry) → covers c e ≡ true → (e.start ≤ c) × (is_before_end c e.end ≡ true)
 covers_parts c e h =

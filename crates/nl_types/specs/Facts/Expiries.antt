@@ -11,12 +11,12 @@ use Rattle.nl_types.specs.declared.error.VolError.TheVariants as error
 use Rattle.nl_types.specs.declared.reply.Answer.TheVariants as answer
 use Rattle.nl_types.specs.declared.row.Range.{Range}
 use Rattle.nl_types.specs.declared.row.Row.{Row}
-use Rattle.nl_types.specs.Limits.{checkpoint_number_limit}
-use Rattle.nl_types.specs.Protection.{is_below, least, protected}
-use Rattle.nl_types.specs.NumberLists.{is_one_of}
-use Rattle.nl_types.specs.Rows.{is_between, rows_between, is_snapshot, judged_range, number_of, range_removal, removable}
-use Rattle.nl_types.specs.Worlds.{World, Copy, IsWorld, Outcome, Reply, boundary_of, copy_at, expiry_of, latest, copy_row, rows}
-use Rattle.nl_types.specs.CheckpointLaws.{BoundariesAreLeastProtected, ExpiriesAnswerExpiring, ExpiriesAreRemovals, ExpiriesTakeExpiring, IsBoundary, is_expiring, is_protected_at, is_removable, removed_by, where_passes}
+use Rattle.nl_types.specs.Plain.Limits.{checkpoint_number_limit}
+use Rattle.nl_types.specs.Plain.Protection.{is_below, least, protected}
+use Rattle.nl_types.specs.Plain.NumberLists.{is_one_of}
+use Rattle.nl_types.specs.Plain.Rows.{is_between, rows_between, is_snapshot, judged_range, number_of, range_removal, removable}
+use Rattle.nl_types.specs.Plain.Worlds.{World, Copy, IsWorld, Outcome, Reply, boundary_of, copy_at, expiry_of, latest, copy_row, rows}
+use Rattle.nl_types.specs.Plain.CheckpointLaws.{BoundariesAreLeastProtected, ExpiriesAnswerExpiring, ExpiriesAreRemovals, ExpiriesTakeExpiring, IsBoundary, is_expiring, is_protected_at, is_removable, removed_by, where_passes}
 use Rattle.nl_types.specs.Facts.Booleans.{not_true}
 use Rattle.nl_types.specs.Facts.NumberedParts.{find-filter, is_one_of-find, tied-same}
 use Rattle.nl_types.specs.Facts.ToldCopies.{range_of}

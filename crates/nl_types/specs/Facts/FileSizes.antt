@@ -1,8 +1,8 @@
 -- Where files end after a write or a truncation.
 use Rattle.std.proofs.Common.{◌≡◌, ℕ, ◌+◌, ◌-◌, List, ◌++◌, length, take, drop, replicate, ap, ◌∙◌, arith}
 use Rattle.std.proofs.lemmas.List.{length-append, length-take, length-drop, length-replicate}
-use Rattle.nl_types.specs.Calls.{overwritten}
-use Rattle.nl_types.specs.CallLaws.{WrittenSizes, TruncatedSizes}
+use Rattle.nl_types.specs.Plain.Calls.{overwritten}
+use Rattle.nl_types.specs.Plain.CallLaws.{WrittenSizes, TruncatedSizes}
 
 pub written_sizes : WrittenSizes
 written_sizes old offset new =

@@ -4,7 +4,7 @@ use Rattle.std.specs.List.{AllByRecursion}
 use Rattle.std.proofs.lemmas.Bool.{cases_lt}
 use Rattle.nl_types.specs.declared.segment.Log.{Log}
 use Rattle.nl_types.specs.declared.segment.Position.{Position}
-use Rattle.nl_types.specs.Placing.{start_of, place_behind, payload_count, IsLog, AreFilled, has_room, AreInRow, taken_segments, IsFront, GoOn}
+use Rattle.nl_types.specs.Blocks.Placing.{start_of, place_behind, payload_count, IsLog, AreFilled, has_room, AreInRow, taken_segments, IsFront, GoOn}
 
 -- the log of so many payload blocks at a place
 abbrev pub log_at : Position → ℕ → Log

@@ -7,10 +7,10 @@ use Rattle.nl_types.specs.declared.error.VolError.{VolError}
 use Rattle.nl_types.specs.declared.error.VolError.TheVariants as error
 use Rattle.nl_types.specs.declared.reply.Node.{Node}
 use Rattle.nl_types.specs.declared.reply.Node.TheVariants.{Dir, File}
-use Rattle.nl_types.specs.Limits.{file_limit}
-use Rattle.nl_types.specs.Paths.{Name, Path, path_of, names_of, is_name}
-use Rattle.nl_types.specs.Trees.{Tree, IsTree, lookup, insert}
-use Rattle.nl_types.specs.Calls.{Changed, and_then, refuse_if, ok_unless, stops_walk, stop_from, walk, node_at, file_at, file_in, dir_at, dir_in}
+use Rattle.nl_types.specs.Plain.Limits.{file_limit}
+use Rattle.nl_types.specs.Plain.Paths.{Name, Path, path_of, names_of, is_name}
+use Rattle.nl_types.specs.Plain.Trees.{Tree, IsTree, lookup, insert}
+use Rattle.nl_types.specs.Plain.Calls.{Changed, and_then, refuse_if, ok_unless, stops_walk, stop_from, walk, node_at, file_at, file_in, dir_at, dir_in}
 use Rattle.nl_types.specs.Facts.TreeLaws.{IsTree-insert}
 
 -- ---- judgements, one after another

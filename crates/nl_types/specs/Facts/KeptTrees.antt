@@ -8,11 +8,11 @@ use Rattle.nl_types.specs.declared.error.VolError.TheVariants as error
 use Rattle.nl_types.specs.declared.reply.Answer.TheVariants as answer
 use Rattle.nl_types.specs.declared.reply.Node.{Node}
 use Rattle.nl_types.specs.declared.reply.Node.TheVariants.{Dir, File}
-use Rattle.nl_types.specs.Limits.{file_limit, path_limit}
-use Rattle.nl_types.specs.Paths.{Name, Path, path_of, path_cmp, same_path, is_name}
-use Rattle.nl_types.specs.Trees.{Tree, IsTree, lookup, insert, remove}
-use Rattle.nl_types.specs.Calls.{Changed, refuse_if, tree_after, stop_from, walk, file_at, dir_at, create, write, overwritten, resized, truncate, unlink, rmdir, has_names, is_root}
-use Rattle.nl_types.specs.CallLaws.{CreatesKeepTrees, MkdirsKeepTrees, WritesKeepTrees, TruncatesKeepTrees, UnlinksKeepTrees, RmdirsKeepTrees, RenamesKeepTrees}
+use Rattle.nl_types.specs.Plain.Limits.{file_limit, path_limit}
+use Rattle.nl_types.specs.Plain.Paths.{Name, Path, path_of, path_cmp, same_path, is_name}
+use Rattle.nl_types.specs.Plain.Trees.{Tree, IsTree, lookup, insert, remove}
+use Rattle.nl_types.specs.Plain.Calls.{Changed, refuse_if, tree_after, stop_from, walk, file_at, dir_at, create, write, overwritten, resized, truncate, unlink, rmdir, has_names, is_root}
+use Rattle.nl_types.specs.Plain.CallLaws.{CreatesKeepTrees, MkdirsKeepTrees, WritesKeepTrees, TruncatesKeepTrees, UnlinksKeepTrees, RmdirsKeepTrees, RenamesKeepTrees}
 use Rattle.nl_types.specs.Facts.FileSizes.{written_sizes, truncated_sizes}
 use Rattle.nl_types.specs.Facts.TreeLaws.{IsTree-insert, same_path-equal}
 use Rattle.nl_types.specs.Facts.Judgements.{Leaves, and_then_holds, and_then_any, refuse_if_then, path_of_spells, walk_is, walked, file_at_is, dir_at_is, IsTree-insert_file}

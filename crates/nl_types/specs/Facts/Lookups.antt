@@ -8,8 +8,8 @@ use Rattle.std.specs.Cmp.Lexicographic.{nat_list_cmp_total}
 use Rattle.std.specs.FinMap.{find, IsAntisymmetric, nat_cmp-IsAntisymmetric, slice_cmp-IsAntisymmetric}
 use Rattle.std.specs.FinMap.Entries.{find-where_key}
 use Rattle.nl_types.specs.declared.reply.Node.{Node}
-use Rattle.nl_types.specs.Paths.{Name, Path, name_cmp, path_cmp, same_name, same_path, is_within}
-use Rattle.nl_types.specs.Trees.{Tree, lookup, remove, move_subtree, moved_path, in_order}
+use Rattle.nl_types.specs.Plain.Paths.{Name, Path, name_cmp, path_cmp, same_name, same_path, is_within}
+use Rattle.nl_types.specs.Plain.Trees.{Tree, lookup, remove, move_subtree, moved_path, in_order}
 use Rattle.nl_types.specs.Facts.Booleans.{not_true}
 use Rattle.nl_types.specs.Facts.TreeLaws.{path_total, same_path-equal, lookup-insert}
 

@@ -4,9 +4,9 @@ use Rattle.std.specs.Prelude.{◌||◌, is_none, nat_lt}
 use Rattle.std.specs.List.{list_any}
 use Rattle.std.proofs.lemmas.Bool.{cases_Bool, eqb-true, both_ways, eq-eqb, ltb-true, lt-ltb, ltb-false, or_left, or_right}
 use Rattle.std.proofs.lemmas.List.Folds.{list_any-append}
-use Rattle.nl_types.specs.NumberLists.{is_one_of}
-use Rattle.nl_types.specs.Entries.{Birth, Entry, covers, ended_at, is_before_end, is_needed, written_at}
-use Rattle.nl_types.specs.NeedLaws.{CheckpointsKeepNeeds, LostNumbersEndInTheRun, RemovalsNeedNoMore}
+use Rattle.nl_types.specs.Plain.NumberLists.{is_one_of}
+use Rattle.nl_types.specs.Blocks.Entries.{Birth, Entry, covers, ended_at, is_before_end, is_needed, written_at}
+use Rattle.nl_types.specs.Blocks.NeedLaws.{CheckpointsKeepNeeds, LostNumbersEndInTheRun, RemovalsNeedNoMore}
 use Rattle.nl_types.specs.Facts.PartialMaps.{or_false}
 use Rattle.nl_types.specs.Facts.WrittenEntries.{written-at}
 use Rattle.nl_types.specs.Facts.ExactLifetimes.{covers_parts, covers_from}

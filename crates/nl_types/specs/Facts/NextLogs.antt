@@ -8,8 +8,8 @@ use Rattle.nl_types.specs.declared.segment.Log.{Log}
 use Rattle.nl_types.specs.declared.segment.Position.{Position}
 use Rattle.nl_types.specs.declared.segment.SegmentInfo.{SegmentInfo}
 use Rattle.nl_types.specs.declared.segment.SegmentState.TheVariants.{Active}
-use Rattle.nl_types.specs.Segments.{Segments, is_active, is_clean, info_of, clean_segments, active_place, AreTidy, used_blocks, total_blocks}
-use Rattle.nl_types.specs.Placing.{start_of, end_of, place_behind, payload_count, IsLog, has_room, AreInRow, taken_segments, IsFront, LogsFit, with_log, with_logs, IsNextLog, AreNextLogs}
+use Rattle.nl_types.specs.Blocks.Segments.{Segments, is_active, is_clean, info_of, clean_segments, active_place, AreTidy, used_blocks, total_blocks}
+use Rattle.nl_types.specs.Blocks.Placing.{start_of, end_of, place_behind, payload_count, IsLog, has_room, AreInRow, taken_segments, IsFront, LogsFit, with_log, with_logs, IsNextLog, AreNextLogs}
 use Rattle.nl_types.specs.Facts.GoingOn.{match_true, match_false, test_cases}
 use Rattle.nl_types.specs.Facts.SegmentChanges.{length-none_active, tidy_changed, tidy_at, clean_changed, clean_taken, CleanAt, lowest_is_clean, ActiveAt, active_at, active_changed, not_both, used_in-changed, used_in-most}
 

@@ -9,8 +9,8 @@ use Rattle.std.specs.Ordering.{nat_cmp, is_lt, eq_by_cmp}
 use Rattle.std.specs.Cmp.{unsigned_tied}
 use Rattle.std.specs.FinMap.{find, is_sorted, nat_cmp-IsAntisymmetric}
 use Rattle.std.specs.FinMap.Entries.{below_all, find-where_key, is_sorted-where_key}
-use Rattle.nl_types.specs.NumberLists.{is_one_of}
-use Rattle.nl_types.specs.CheckpointLaws.{where_passes}
+use Rattle.nl_types.specs.Plain.NumberLists.{is_one_of}
+use Rattle.nl_types.specs.Plain.CheckpointLaws.{where_passes}
 use Rattle.nl_types.specs.Facts.Booleans.{is_true, holds}
 use Rattle.nl_types.specs.Facts.NumberedLists.{top, before-lt, tied-false}
 

@@ -3,8 +3,8 @@ use Rattle.std.proofs.Common.{◌≡◌, ℕ, zero, suc, ◌<◌, get_or, Bool, 
 use Rattle.std.specs.Option.{option_map}
 use Rattle.std.specs.Prelude.{◌||◌}
 use Rattle.std.proofs.lemmas.Bool.{cases_Bool, eqb-true, eq-eqb}
-use Rattle.nl_types.specs.NumberLists.{is_one_of, NoneTwice}
-use Rattle.nl_types.specs.PartialMaps.{Partial, put, put_each, adjust, Stands, Keeps}
+use Rattle.nl_types.specs.Plain.NumberLists.{is_one_of, NoneTwice}
+use Rattle.nl_types.specs.Blocks.PartialMaps.{Partial, put, put_each, adjust, Stands, Keeps}
 
 -- functions that agree at each number are equal
 pub same_at_all : {X : Type 0} (m n : Partial X) → ((q : ℕ) → m q ≡ n q) → m ≡ n

@@ -12,10 +12,10 @@ use Rattle.nl_types.specs.declared.reply.Answer.{Answer}
 use Rattle.nl_types.specs.declared.reply.Answer.TheVariants as answer
 use Rattle.nl_types.specs.declared.reply.Node.{Node}
 use Rattle.nl_types.specs.declared.reply.Node.TheVariants.{Dir, File}
-use Rattle.nl_types.specs.Limits.{file_limit}
-use Rattle.nl_types.specs.Paths.{Name, Path, same_name, same_path, is_within, is_name}
-use Rattle.nl_types.specs.Trees.{Tree, IsTree, lookup, move_subtree}
-use Rattle.nl_types.specs.Calls.{Changed, and_then, refuse_if, ok_unless, stop_from, walk, node_at, has_names, is_root, is_dir, is_above, may_replace, rename}
+use Rattle.nl_types.specs.Plain.Limits.{file_limit}
+use Rattle.nl_types.specs.Plain.Paths.{Name, Path, same_name, same_path, is_within, is_name}
+use Rattle.nl_types.specs.Plain.Trees.{Tree, IsTree, lookup, move_subtree}
+use Rattle.nl_types.specs.Plain.Calls.{Changed, and_then, refuse_if, ok_unless, stop_from, walk, node_at, has_names, is_root, is_dir, is_above, may_replace, rename}
 use Rattle.nl_types.specs.Facts.TreeLaws.{same_path-equal}
 use Rattle.nl_types.specs.Facts.Judgements.{Leaves, and_then_holds, refuse_if_then, goes_on, node_at_is, ok_is}
 use Rattle.nl_types.specs.Facts.Lookups.{same_path-itself, same_name-equal, within_is, lookup-move_subtree}

@@ -1,6 +1,6 @@
 -- Runs, put together.
 use Rattle.std.proofs.Common.{List, [], ◌∷◌, ◌++◌, refl, subst}
-use Rattle.nl_types.specs.Runs.{Run}
+use Rattle.nl_types.specs.Plain.Runs.{Run}
 
 -- a run goes on by one step
 pub Run-more : {S E R : Type 0} (Steps : S → E → R → S → Type 0) (old mid new : S) (es : List E) (rs : List R)

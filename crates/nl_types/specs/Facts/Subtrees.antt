@@ -5,8 +5,8 @@ use Rattle.std.specs.FinMap.{is_sorted}
 use Rattle.std.specs.FinMap.Entries.{is_sorted-put, length-put}
 use Rattle.std.proofs.lemmas.List.{length-map}
 use Rattle.nl_types.specs.declared.reply.Node.{Node}
-use Rattle.nl_types.specs.Paths.{Path, path_cmp, is_within}
-use Rattle.nl_types.specs.Trees.{Tree, lookup, insert, in_order, moved_path, move_subtree}
+use Rattle.nl_types.specs.Plain.Paths.{Path, path_cmp, is_within}
+use Rattle.nl_types.specs.Plain.Trees.{Tree, lookup, insert, in_order, moved_path, move_subtree}
 use Rattle.nl_types.specs.Facts.TreeLaws.{path_total}
 
 pub in_order-sorted : (entries : List (Path × Node)) → T (is_sorted path_cmp (in_order entries))

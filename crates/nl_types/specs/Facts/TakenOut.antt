@@ -8,10 +8,10 @@ use Rattle.std.proofs.lemmas.Option.{same_Some}
 use Rattle.std.specs.Ordering.{nat_cmp, eq_by_cmp}
 use Rattle.std.specs.FinMap.{find, is_sorted}
 use Rattle.nl_types.specs.declared.error.VolError.TheVariants as error
-use Rattle.nl_types.specs.NumberLists.{is_one_of}
-use Rattle.nl_types.specs.Rows.{is_snapshot, number_of, may_go, is_between, rows_between, removable}
-use Rattle.nl_types.specs.Worlds.{World, Copy, copy_at, latest, copy_row, is_mounted, take_out}
-use Rattle.nl_types.specs.CheckpointLaws.{where_passes, is_removable}
+use Rattle.nl_types.specs.Plain.NumberLists.{is_one_of}
+use Rattle.nl_types.specs.Plain.Rows.{is_snapshot, number_of, may_go, is_between, rows_between, removable}
+use Rattle.nl_types.specs.Plain.Worlds.{World, Copy, copy_at, latest, copy_row, is_mounted, take_out}
+use Rattle.nl_types.specs.Plain.CheckpointLaws.{where_passes, is_removable}
 use Rattle.nl_types.specs.Facts.Booleans.{not_true, or_right}
 use Rattle.nl_types.specs.Facts.NumberedParts.{is_one_of-find, find-kept, find-filter, top-kept}
 use Rattle.nl_types.specs.Facts.ToldCopies.{MayGo, range_of}

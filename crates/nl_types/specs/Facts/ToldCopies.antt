@@ -11,9 +11,9 @@ use Rattle.nl_types.specs.declared.error.VolError.TheVariants as error
 use Rattle.nl_types.specs.declared.event.Mode.{Mode}
 use Rattle.nl_types.specs.declared.row.Range.{Range}
 use Rattle.nl_types.specs.declared.row.Row.{Row}
-use Rattle.nl_types.specs.Calls.{and_then, ok_unless}
-use Rattle.nl_types.specs.Rows.{is_snapshot, find_row, kept_row, reason_to_stay, removal, is_between, rows_between, judged_range, is_no_range, range_removal}
-use Rattle.nl_types.specs.Worlds.{World, Copy, copy_at, latest, copy_row, rows, is_given_up, is_mounted}
+use Rattle.nl_types.specs.Plain.Calls.{and_then, ok_unless}
+use Rattle.nl_types.specs.Plain.Rows.{is_snapshot, find_row, kept_row, reason_to_stay, removal, is_between, rows_between, judged_range, is_no_range, range_removal}
+use Rattle.nl_types.specs.Plain.Worlds.{World, Copy, copy_at, latest, copy_row, rows, is_given_up, is_mounted}
 use Rattle.nl_types.specs.Facts.Judgements.{and_then_holds}
 use Rattle.nl_types.specs.Facts.NumberedLists.{tied-false}
 use Rattle.nl_types.specs.Facts.NumberedParts.{tied-true}

@@ -8,9 +8,9 @@ use Rattle.std.specs.FinMap.{IsAntisymmetric, nat_cmp-IsAntisymmetric, slice_cmp
 use Rattle.std.specs.FinMap.Entries.{find-put, is_sorted-put, length-put}
 use Rattle.nl_types.specs.declared.reply.Node.{Node}
 use Rattle.nl_types.specs.declared.reply.Node.TheVariants.{Dir, File}
-use Rattle.nl_types.specs.Limits.{file_limit, path_limit}
-use Rattle.nl_types.specs.Paths.{Name, Path, path_cmp, same_path, is_name}
-use Rattle.nl_types.specs.Trees.{Tree, IsTree, lookup, insert}
+use Rattle.nl_types.specs.Plain.Limits.{file_limit, path_limit}
+use Rattle.nl_types.specs.Plain.Paths.{Name, Path, path_cmp, same_path, is_name}
+use Rattle.nl_types.specs.Plain.Trees.{Tree, IsTree, lookup, insert}
 use Rattle.nl_types.specs.Facts.Booleans.{is_true, holds}
 
 -- paths are in a total order

@@ -7,10 +7,10 @@ use Rattle.std.specs.List.{AllByRecursion}
 use Rattle.nl_types.specs.declared.segment.Log.{Log}
 use Rattle.nl_types.specs.declared.segment.SegmentInfo.{SegmentInfo}
 use Rattle.nl_types.specs.declared.segment.SegmentState.TheVariants.{Active, Error}
-use Rattle.nl_types.specs.Segments.{Segments, none_active, info_of, clean_info, with_error, with_clean, AreTidy, IsUsed, StaysUsed, total_blocks}
-use Rattle.nl_types.specs.Placing.{IsNextLog, AreNextLogs, with_log, with_logs, end_of, first_block, blocks_from, addresses, payload_count}
-use Rattle.nl_types.specs.NumberLists.{NoneTwice, is_one_of}
-use Rattle.nl_types.specs.PlacingLaws.{AreUnused}
+use Rattle.nl_types.specs.Blocks.Segments.{Segments, none_active, info_of, clean_info, with_error, with_clean, AreTidy, IsUsed, StaysUsed, total_blocks}
+use Rattle.nl_types.specs.Blocks.Placing.{IsNextLog, AreNextLogs, with_log, with_logs, end_of, first_block, blocks_from, addresses, payload_count}
+use Rattle.nl_types.specs.Plain.NumberLists.{NoneTwice, is_one_of}
+use Rattle.nl_types.specs.Blocks.PlacingLaws.{AreUnused}
 use Rattle.nl_types.specs.Facts.SegmentChanges.{used_same, used_other, room_of}
 use Rattle.nl_types.specs.Facts.NextLogs.{tidy_with_log, length-with_log}
 

@@ -15,15 +15,15 @@ use Rattle.nl_types.specs.declared.event.Event.TheVariants as event
 use Rattle.nl_types.specs.declared.reply.Answer.TheVariants as answer
 use Rattle.nl_types.specs.declared.reply.Node.{Node}
 use Rattle.nl_types.specs.declared.reply.Node.TheVariants.{Dir, File}
-use Rattle.nl_types.specs.Limits.{file_limit, path_limit, checkpoint_number_limit, mount_number_limit}
-use Rattle.nl_types.specs.Paths.{Path, path_of, same_path, names_of, is_name}
-use Rattle.nl_types.specs.Trees.{Tree, lookup, insert, remove, move_subtree}
-use Rattle.nl_types.specs.Calls.{Changed, and_then, refuse_if, ok_unless, stops_walk, stop_from, walk, node_at, file_at, file_in, dir_at, dir_in, is_root, is_dir, is_above, has_names, overwritten, resized, create, write, truncate, unlink, rmdir, may_replace, rename, change, list, stat, reply_to}
+use Rattle.nl_types.specs.Plain.Limits.{file_limit, path_limit, checkpoint_number_limit, mount_number_limit}
+use Rattle.nl_types.specs.Plain.Paths.{Path, path_of, same_path, names_of, is_name}
+use Rattle.nl_types.specs.Plain.Trees.{Tree, lookup, insert, remove, move_subtree}
+use Rattle.nl_types.specs.Plain.Calls.{Changed, and_then, refuse_if, ok_unless, stops_walk, stop_from, walk, node_at, file_at, file_in, dir_at, dir_in, is_root, is_dir, is_above, has_names, overwritten, resized, create, write, truncate, unlink, rmdir, may_replace, rename, change, list, stat, reply_to}
 use Rattle.nl_types.specs.declared.row.Range.{Range}
 use Rattle.nl_types.specs.declared.row.Row.{Row}
-use Rattle.nl_types.specs.Rows.{is_snapshot, find_row, kept_row, reason_to_stay, removal, is_between, rows_between, judged_range, is_no_range, range_removal}
-use Rattle.nl_types.specs.Worlds.{World, Outcome, copy_at, latest, rows, is_given_up, is_mounted, is_moving, with_minor, either, refused_if, kept_copy, mounted, mounted_copy}
-use Rattle.nl_types.specs.Laws.{IsJudged, StepsJudge}
+use Rattle.nl_types.specs.Plain.Rows.{is_snapshot, find_row, kept_row, reason_to_stay, removal, is_between, rows_between, judged_range, is_no_range, range_removal}
+use Rattle.nl_types.specs.Plain.Worlds.{World, Outcome, copy_at, latest, rows, is_given_up, is_mounted, is_moving, with_minor, either, refused_if, kept_copy, mounted, mounted_copy}
+use Rattle.nl_types.specs.Plain.Laws.{IsJudged, StepsJudge}
 
 -- ---- judgements, one after another
 

@@ -14,14 +14,14 @@ use Rattle.nl_types.specs.declared.event.Mode.{Mode}
 use Rattle.nl_types.specs.declared.event.Mode.TheVariants.{Plain, Snapshot}
 use Rattle.nl_types.specs.declared.reply.Answer.{Answer}
 use Rattle.nl_types.specs.declared.reply.Node.TheVariants.{Dir, File}
-use Rattle.nl_types.specs.Limits.{checkpoint_number_limit, mount_number_limit, file_limit}
-use Rattle.nl_types.specs.Paths.{Path, Name, is_name}
-use Rattle.nl_types.specs.Trees.{Tree, IsTree, lookup, root_alone}
-use Rattle.nl_types.specs.Calls.{change, is_dirtying}
-use Rattle.nl_types.specs.NumberLists.{is_one_of}
-use Rattle.nl_types.specs.Rows.{is_snapshot}
-use Rattle.nl_types.specs.Worlds.{World, Copy, IsWorld, Outcome, Reply, formatted, copy_at, latest, latest_stamp, greatest_stamp, are_stamps_rising, minor_copy, with_minor, moded, copies_with_mode, expiry_of, is_mounted, take_out}
-use Rattle.nl_types.specs.Laws.{StepsKeepWorlds}
+use Rattle.nl_types.specs.Plain.Limits.{checkpoint_number_limit, mount_number_limit, file_limit}
+use Rattle.nl_types.specs.Plain.Paths.{Path, Name, is_name}
+use Rattle.nl_types.specs.Plain.Trees.{Tree, IsTree, lookup, root_alone}
+use Rattle.nl_types.specs.Plain.Calls.{change, is_dirtying}
+use Rattle.nl_types.specs.Plain.NumberLists.{is_one_of}
+use Rattle.nl_types.specs.Plain.Rows.{is_snapshot}
+use Rattle.nl_types.specs.Plain.Worlds.{World, Copy, IsWorld, Outcome, Reply, formatted, copy_at, latest, latest_stamp, greatest_stamp, are_stamps_rising, minor_copy, with_minor, moded, copies_with_mode, expiry_of, is_mounted, take_out}
+use Rattle.nl_types.specs.Plain.Laws.{StepsKeepWorlds}
 use Rattle.nl_types.specs.Facts.ChangeLaws.{change-IsTree, change-same}
 use Rattle.nl_types.specs.Facts.NumberedLists.{AllBelow, AllBelow-top, list_all_weaken, list_all-push, option_map-find_stays, find-push_same, ForSome-find-push, is_sorted-push, top-push, find_top_later, find_top_one}
 use Rattle.nl_types.specs.Facts.NumberedParts.{list_all-filter, find-kept, is_sorted-kept, find-valued, is_sorted-valued, top-valued}

@@ -3,9 +3,9 @@ use Rattle.std.proofs.Common.{◌≡◌, ℕ, Bool, true, false, cond, eqb, List
 use Rattle.std.specs.Option.{option_map}
 use Rattle.std.specs.Prelude.{◌||◌}
 use Rattle.std.proofs.lemmas.Bool.{cases_Bool, eqb-true}
-use Rattle.nl_types.specs.NumberLists.{is_one_of}
-use Rattle.nl_types.specs.PartialMaps.{put, put_all, adjust, adjust_all}
-use Rattle.nl_types.specs.Entries.{Birth, Entry, Content, number_of, born_at, ended_at, written, birth_of, written_at, GivenOnce}
+use Rattle.nl_types.specs.Plain.NumberLists.{is_one_of}
+use Rattle.nl_types.specs.Blocks.PartialMaps.{put, put_all, adjust, adjust_all}
+use Rattle.nl_types.specs.Blocks.Entries.{Birth, Entry, Content, number_of, born_at, ended_at, written, birth_of, written_at, GivenOnce}
 use Rattle.nl_types.specs.Facts.PartialMaps.{or_false}
 
 -- a number that no birth is given to keeps what it has

@@ -5,8 +5,8 @@ use Rattle.std.specs.Option.{option_map_or}
 use Rattle.std.proofs.lemmas.Bool.{cases_Bool, cases_lt, both_ways, eqb-true, eq-eqb, or_cases}
 use Rattle.std.proofs.lemmas.List.{length_push}
 use Rattle.std.proofs.lemmas.List.Folds.{list_any-append}
-use Rattle.nl_types.specs.NumberLists.{is_one_of}
-use Rattle.nl_types.specs.Entries.{Birth, Content, number_of, birth_of, GivenOnce}
+use Rattle.nl_types.specs.Plain.NumberLists.{is_one_of}
+use Rattle.nl_types.specs.Blocks.Entries.{Birth, Content, number_of, birth_of, GivenOnce}
 use Rattle.nl_layout.specs.declared.tag.Tag.{Tag}
 use Rattle.nl_vstore.specs.Batches.{Changes, CanBeTaken, IsLowestFree, last_number, is_born, is_taken, is_live, with_page, births_of, birth_of_item}
 

@@ -5,8 +5,8 @@ use Rattle.std.proofs.Math.Nat.{mul-le-mul_right}
 use Rattle.std.proofs.lemmas.Bool.{cases_lt, le-ltb, lt-leb}
 use Rattle.std.specs.Prelude.{nat_le, nat_lt}
 use Rattle.nl_types.specs.declared.segment.Log.{Log}
-use Rattle.nl_types.specs.Segments.{Segments, AreTidy, IsClosed}
-use Rattle.nl_types.specs.Placing.{LogsFit, AreNextLogs, with_log, end_of, first_block, blocks_from, addresses}
+use Rattle.nl_types.specs.Blocks.Segments.{Segments, AreTidy, IsClosed}
+use Rattle.nl_types.specs.Blocks.Placing.{LogsFit, AreNextLogs, with_log, end_of, first_block, blocks_from, addresses}
 use Rattle.nl_types.specs.Facts.NextLogs.{tidy_with_log, placed}
 use Rattle.nl_types.specs.Facts.UsedParts.{all_in_row, all-append}
 use Rattle.nl_types.specs.Facts.ClosedSegments.{next-elsewhere, still-closed}

@@ -4,8 +4,8 @@ use Rattle.std.specs.Prelude.{◌||◌}
 use Rattle.std.specs.List.{AllByRecursion}
 use Rattle.std.specs.Option.{option_map}
 use Rattle.std.proofs.lemmas.Bool.{cases_Bool, or_cases}
-use Rattle.nl_types.specs.NumberLists.{is_one_of}
-use Rattle.nl_types.specs.PartialMaps.{Partial, adjust, adjust_each}
+use Rattle.nl_types.specs.Plain.NumberLists.{is_one_of}
+use Rattle.nl_types.specs.Blocks.PartialMaps.{Partial, adjust, adjust_each}
 use Rattle.nl_vstore.specs.Stores.{is_inside, moved_to}
 
 -- a number that is moved has one of the new blocks
@@ -47,7 +47,7 @@ moved-in P (k ∷ ks) (a ∷ bs) m v len all among some = elim (cases_Bool (is_o
           others js cs (adjust (moved_to c) n j) (sym (ap (λ t. t || is_one_of js v) e) ∙ none) ∙ rw e refl
     ]
 
-pub is_some-inside : (s : Rattle.nl_types.specs.Segments.Segments) (segment : ℕ) (o : Option ℕ)
+pub is_some-inside : (s : Rattle.nl_types.specs.Blocks.Segments.Segments) (segment : ℕ) (o : Option ℕ)
     → is_inside s segment o ≡ true → is_some o ≡ true
 is_some-inside s segment None h = cc
 is_some-inside s segment (Some b) h = refl

@@ -6,11 +6,11 @@ use Rattle.std.proofs.Math.Nat.{mul-le-mul_right}
 use Rattle.std.proofs.lemmas.Bool.{cases_Bool, cases_eq, cases_lt, both_ways}
 use Rattle.nl_types.specs.declared.segment.Log.{Log}
 use Rattle.std.proofs.lemmas.List.{length-map}
-use Rattle.nl_types.specs.Segments.{Segments, AreTidy, IsClosed}
-use Rattle.nl_types.specs.Placing.{blocks_from, with_log, with_logs}
-use Rattle.nl_types.specs.Entries.{Content, Entry}
-use Rattle.nl_types.specs.NumberLists.{is_one_of}
-use Rattle.nl_types.specs.PartialMaps.{Partial, adjust, adjust_each}
+use Rattle.nl_types.specs.Blocks.Segments.{Segments, AreTidy, IsClosed}
+use Rattle.nl_types.specs.Blocks.Placing.{blocks_from, with_log, with_logs}
+use Rattle.nl_types.specs.Blocks.Entries.{Content, Entry}
+use Rattle.nl_types.specs.Plain.NumberLists.{is_one_of}
+use Rattle.nl_types.specs.Blocks.PartialMaps.{Partial, adjust, adjust_each}
 use Rattle.nl_types.specs.Facts.UsedParts.{length-addresses}
 use Rattle.nl_vstore.specs.Stores.{Store, IsStore, IsMoved, payload_under, address_in, content_in, is_inside, moved_to}
 use Rattle.nl_vstore.specs.Located.{number_at, pick, picked, if_needed, entry_needed, needs, needed_at, needed_in}

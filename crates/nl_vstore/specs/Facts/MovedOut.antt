@@ -1,7 +1,7 @@
 -- A list without the first n of what is picked.
 use Rattle.std.proofs.Common.{◌≡◌, ◌==◌, ◌||◌, ℕ, zero, suc, Bool, true, false, cond, List, [], ◌∷◌, take, drop, Option, None, Some, refl, sym, ap, ◌∙◌, true≢false}
 use Rattle.std.proofs.lemmas.Bool.{eq-eqb, eqb-false, ne_eqb}
-use Rattle.nl_types.specs.NumberLists.{is_one_of, NoneTwice}
+use Rattle.nl_types.specs.Plain.NumberLists.{is_one_of, NoneTwice}
 use Rattle.nl_vstore.specs.Located.{onto, pick}
 
 abbrev pub unless : List ℕ → Option ℕ → Option ℕ

@@ -7,10 +7,10 @@ use Rattle.std.specs.Option.{option_map}
 use Rattle.std.specs.Set.{is_member}
 use Rattle.std.proofs.lemmas.Bool.{cases_Bool, cases_eq, or_cases, eqb-true, eq-eqb, both_ways, and_from, and_parts, le-leb, leb-true, lt-ltb, ltb-true}
 use Rattle.std.proofs.lemmas.Map.Made.{length-le_from_is_member}
-use Rattle.nl_types.specs.Segments.{Segments}
-use Rattle.nl_types.specs.Entries.{Entry}
-use Rattle.nl_types.specs.NumberLists.{is_one_of, NoneTwice}
-use Rattle.nl_types.specs.PartialMaps.{Partial}
+use Rattle.nl_types.specs.Blocks.Segments.{Segments}
+use Rattle.nl_types.specs.Blocks.Entries.{Entry}
+use Rattle.nl_types.specs.Plain.NumberLists.{is_one_of, NoneTwice}
+use Rattle.nl_types.specs.Blocks.PartialMaps.{Partial}
 use Rattle.nl_vstore.specs.Stores.{Numbered, Store, IsStore, IsReclaimed, block_now, address_in, content_in, numbered_in, is_inside}
 use Rattle.nl_vstore.specs.Located.{stands_at, first_at, number_at, onto, picked, numbers_in, if_needed, needs, needed_at, needed_in}
 

@@ -5,9 +5,9 @@ use Rattle.std.proofs.Props.{props}
 use Rattle.std.proofs.Math.Logic.{∥∥₁_elim}
 use Rattle.std.proofs.lemmas.List.{length-map}
 use Rattle.std.proofs.lemmas.Option.{same_Some}
-use Rattle.nl_types.specs.PartialMaps.{Partial}
-use Rattle.nl_types.specs.Segments.{info_of}
-use Rattle.nl_types.specs.Placing.{blocks_from}
+use Rattle.nl_types.specs.Blocks.PartialMaps.{Partial}
+use Rattle.nl_types.specs.Blocks.Segments.{info_of}
+use Rattle.nl_types.specs.Blocks.Placing.{blocks_from}
 use Rattle.nl_layout.specs.Summary.{Contents, Spells, summary_bytes}
 use Rattle.nl_layout.specs.Facts.Reading.{contents-Spells}
 use Rattle.nl_space.specs.Content.{HeldPayload, Payload, StandInRow, payload_page, payload_tag}

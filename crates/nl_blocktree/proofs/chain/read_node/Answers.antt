@@ -2,7 +2,7 @@ use Rattle.std.proofs.Common.{◌≡◌, ◌∙◌, ◌+◌, ◌<◌, ◌++◌, 
 use Rattle.std.proofs.lemmas.Bool.{cases_lt}
 use Rattle.std.proofs.lemmas.List.{get_or_append_left, get_or_push, length_push}
 use Rattle.std.specs.Option.{option_and_then}
-use Rattle.nl_types.specs.Roots.{child, slot}
+use Rattle.nl_types.specs.Blocks.Roots.{child, slot}
 use Rattle.nl_blocktree.specs.Private.Chains.{raw}
 use Rattle.nl_blocktree.proofs.chain.read_node.Goals as goal
 

@@ -1,5 +1,5 @@
 use Rattle.std.proofs.Common.{◌≡◌, ◌∙◌, arith, ap, sym}
-use Rattle.nl_types.specs.Roots.{OfChain, OfTree, kind_of}
+use Rattle.nl_types.specs.Blocks.Roots.{OfChain, OfTree, kind_of}
 use Rattle.nl_layout.specs.Root.{root_of}
 use Rattle.nl_layout.specs.declared.root.Root.{Root}
 use Rattle.nl_blocktree.specs.Facts.Reading.{place-behind}

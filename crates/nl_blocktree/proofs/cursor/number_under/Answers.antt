@@ -1,5 +1,5 @@
 use Rattle.std.proofs.Common.{◌∙◌, ◌%◌, ℕ, ap, sym}
-use Rattle.nl_types.specs.Roots.{Pages, child}
+use Rattle.nl_types.specs.Blocks.Roots.{Pages, child}
 use Rattle.nl_layout.specs.Root.{root_of}
 use Rattle.nl_blocktree.specs.Private.Chains.{slots_below}
 use Rattle.nl_blocktree.proofs.TreeReading.{data_under}

@@ -1,5 +1,5 @@
 use Rattle.std.proofs.Common.{take}
-use Rattle.nl_types.specs.Roots.{pages_of, place_at}
+use Rattle.nl_types.specs.Blocks.Roots.{pages_of, place_at}
 use Rattle.nl_layout.specs.Root.{root_of}
 use Rattle.nl_vstore.specs.Batches.{CanBeTaken}
 use Rattle.nl_vstore.specs.Stores.{capacity, content_in}

@@ -1,7 +1,7 @@
 use Rattle.std.proofs.Common.{◌≡◌, ℕ, List, arith, sym, subst}
 use Rattle.std.proofs.lemmas.Result.{IfOk-weaker}
-use Rattle.nl_types.specs.Entries.{Birth}
-use Rattle.nl_types.specs.Roots.{Pages}
+use Rattle.nl_types.specs.Blocks.Entries.{Birth}
+use Rattle.nl_types.specs.Blocks.Roots.{Pages}
 use Rattle.nl_blocktree.specs.Private.Renewing.{TopPage}
 use Rattle.nl_blocktree.proofs.TreeHeights.{lowered_as_is, lowered_at_one, lowered_step}
 use Rattle.nl_blocktree.proofs.height.+lower.Goals as goal

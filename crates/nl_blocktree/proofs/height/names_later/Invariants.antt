@@ -1,7 +1,7 @@
 use Rattle.std.proofs.Common.{◌≡◌, ◌≤◌, ◌<◌, ℕ, List, None}
 use Rattle.std.specs.Prelude.{option_copied}
 use Rattle.std.specs.Option.{option_and_then}
-use Rattle.nl_types.specs.Roots.{slot}
+use Rattle.nl_types.specs.Blocks.Roots.{slot}
 use Rattle.nl_blocktree.proofs.height.names_later.Given as goal
 
 abbrev pub invariant-loop-at : goal.invariant-loop-at

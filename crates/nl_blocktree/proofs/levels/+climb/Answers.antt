@@ -1,6 +1,6 @@
 use Rattle.std.proofs.Common.{◌≡◌, ◌∙◌, ◌<◌, ◌+◌, arith}
 use Rattle.std.proofs.lemmas.Result.{IfOk-weaker}
-use Rattle.nl_types.specs.Roots.{pages_of}
+use Rattle.nl_types.specs.Blocks.Roots.{pages_of}
 use Rattle.nl_layout.specs.Root.{root_of}
 use Rattle.nl_vstore.specs.Stores.{content_in}
 use Rattle.nl_blocktree.specs.Private.Edits.{top_edits}

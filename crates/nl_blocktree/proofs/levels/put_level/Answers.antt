@@ -1,6 +1,6 @@
 use Rattle.std.proofs.Common.{◌≡◌, ◌∙◌, ◌+◌, ◌/◌, [], suc, List, take, get_or, arith, ap, sym, subst}
 use Rattle.std.proofs.lemmas.List.{length-take, take_all}
-use Rattle.nl_types.specs.Roots.{numbered, pages_of}
+use Rattle.nl_types.specs.Blocks.Roots.{numbered, pages_of}
 use Rattle.nl_layout.specs.Root.{root_of}
 use Rattle.nl_vstore.specs.Stores.{content_in}
 use Rattle.nl_blocktree.specs.Private.TreeLevels.{kept_levels}

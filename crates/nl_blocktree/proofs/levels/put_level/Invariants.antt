@@ -1,5 +1,5 @@
 use Rattle.std.proofs.Common.{◌≤◌, ◌<◌, ◌+◌, ◌/◌, ◌-◌, ℕ, suc, length, slice_index_or, take}
-use Rattle.nl_types.specs.Roots.{pages_of}
+use Rattle.nl_types.specs.Blocks.Roots.{pages_of}
 use Rattle.nl_layout.specs.Root.{root_of}
 use Rattle.nl_vstore.specs.Batches.{CanBeTaken}
 use Rattle.nl_vstore.specs.Stores.{capacity, content_in}

@@ -1,5 +1,5 @@
 use Rattle.std.proofs.Common.{◌∙◌, ◌%◌, ap, sym}
-use Rattle.nl_types.specs.Roots.{child}
+use Rattle.nl_types.specs.Blocks.Roots.{child}
 use Rattle.nl_blocktree.proofs.TreeAbove.{above_step, below_step, on_way}
 use Rattle.nl_blocktree.proofs.path.+path_below.Goals as goal
 

@@ -1,5 +1,5 @@
 use Rattle.std.proofs.Common.{◌∙◌, ◌%◌, ap, sym}
-use Rattle.nl_types.specs.Roots.{child}
+use Rattle.nl_types.specs.Blocks.Roots.{child}
 use Rattle.nl_layout.specs.Root.{root_of}
 use Rattle.nl_blocktree.specs.Facts.Reading.{data-place}
 use Rattle.nl_blocktree.proofs.path.chain_path.Goals as goal

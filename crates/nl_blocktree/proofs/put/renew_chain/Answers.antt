@@ -1,7 +1,7 @@
 use Rattle.std.proofs.Common.{◌≡◌, ◌∙◌, ◌++◌, ℕ, List, true, get_or, ap, sym, subst, refl, ◌≢◌, ◌<◌, Option, None, Some, arith, length}
 use Rattle.std.specs.List.{All, AllPairs}
 use Rattle.std.proofs.lemmas.Option.{slice_get-get_or}
-use Rattle.nl_types.specs.Roots.{Pages, Root, pages_of, place_at}
+use Rattle.nl_types.specs.Blocks.Roots.{Pages, Root, pages_of, place_at}
 use Rattle.nl_layout.specs.Root.{root_of}
 use Rattle.nl_vstore.specs.Batches.{Changes, is_live}
 use Rattle.nl_vstore.specs.Stores.{capacity, content_in}

@@ -2,7 +2,7 @@ use Rattle.std.proofs.Common.{inl, inr, ◌<◌, arith}
 use Rattle.std.proofs.lemmas.Result.{IfOk-weaker}
 use Rattle.nl_layout.specs.Root.{root_of}
 use Rattle.nl_vstore.specs.Stores.{content_in}
-use Rattle.nl_types.specs.Roots.{pages_of}
+use Rattle.nl_types.specs.Blocks.Roots.{pages_of}
 use Rattle.nl_blocktree.proofs.TreeRoots.{told_tree}
 use Rattle.std.proofs.lemmas.List.Elements.{All-weaker}
 use Rattle.nl_blocktree.specs.declared.tree.Edit.{Edit}

@@ -1,5 +1,5 @@
 use Rattle.std.proofs.Common.{◌≡◌, ◌≤◌, ◌+◌, ℕ, arith, sym, ap, ◌∙◌}
-use Rattle.nl_types.specs.Roots.{Pages, chain_node, child}
+use Rattle.nl_types.specs.Blocks.Roots.{Pages, chain_node, child}
 use Rattle.nl_blocktree.specs.Facts.Chains.{chain_node-more, chain_node-lost}
 use Rattle.nl_blocktree.proofs.read.node_behind.Goals as goal
 

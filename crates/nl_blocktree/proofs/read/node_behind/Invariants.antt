@@ -1,5 +1,5 @@
 use Rattle.std.proofs.Common.{◌≡◌, ◌+◌, ℕ}
-use Rattle.nl_types.specs.Roots.{chain_node}
+use Rattle.nl_types.specs.Blocks.Roots.{chain_node}
 use Rattle.nl_blocktree.proofs.read.node_behind.Given as goal
 
 abbrev pub invariant-loop-step : goal.invariant-loop-step

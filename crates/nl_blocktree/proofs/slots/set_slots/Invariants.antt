@@ -1,5 +1,5 @@
 use Rattle.std.proofs.Common.{◌≡◌, ℕ, length, slice_index, take}
-use Rattle.nl_types.specs.Roots.{numbered}
+use Rattle.nl_types.specs.Blocks.Roots.{numbered}
 use Rattle.nl_blocktree.specs.Private.Edits.{edited}
 use Rattle.nl_blocktree.proofs.slots.set_slots.Given as goal
 

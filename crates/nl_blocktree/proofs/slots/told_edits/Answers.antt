@@ -1,7 +1,7 @@
 use Rattle.std.proofs.Common.{◌≡◌, ◌∙◌, ◌++◌, ℕ, List, length, take, drop, slice_index, arith, ap, sym, subst}
 use Rattle.std.proofs.lemmas.List.{take_at}
 use Rattle.std.proofs.lemmas.Result.{IfOk-weaker}
-use Rattle.nl_types.specs.Roots.{numbered}
+use Rattle.nl_types.specs.Blocks.Roots.{numbered}
 use Rattle.nl_blocktree.specs.Private.Edits.{TellsAll, edited, edits_from}
 use Rattle.nl_blocktree.specs.declared.tree.Edit.{Edit}
 use Rattle.nl_blocktree.proofs.TreeSlots.{all_below, tells_made}

@@ -1,5 +1,5 @@
 use Rattle.std.proofs.Common.{◌≡◌, ◌<◌, ℕ, length, slice_index}
-use Rattle.nl_types.specs.Roots.{child, numbered}
+use Rattle.nl_types.specs.Blocks.Roots.{child, numbered}
 use Rattle.nl_blocktree.proofs.tree.old_slots.Given as goal
 
 abbrev pub invariant-loop-s : goal.invariant-loop-s

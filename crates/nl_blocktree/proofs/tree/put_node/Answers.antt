@@ -1,8 +1,8 @@
 use Rattle.std.proofs.Common.{◌≡◌, ◌++◌, ◌∷◌, [], ◌∙◌, ◌+◌, ◌*◌, ◌%◌, ℕ, List, Option, ap, sym, subst}
 use Rattle.std.specs.Option.{IsSome}
 use Rattle.std.proofs.lemmas.Result.{IfOk-weaker}
-use Rattle.nl_types.specs.Entries.{Birth}
-use Rattle.nl_types.specs.Roots.{Pages, child, numbered}
+use Rattle.nl_types.specs.Blocks.Entries.{Birth}
+use Rattle.nl_types.specs.Blocks.Roots.{Pages, child, numbered}
 use Rattle.nl_vstore.specs.Stores.{content_in}
 use Rattle.nl_vstore.specs.Batches.{Changes, IsLowestFree}
 use Rattle.nl_blocktree.specs.Private.Writing as shapes

@@ -1,6 +1,6 @@
 use Rattle.std.proofs.Common.{◌∙◌, List, ap, inl, refl, subst, sym}
 use Rattle.std.specs.Option.{is_some}
-use Rattle.nl_types.specs.Roots.{Pages}
+use Rattle.nl_types.specs.Blocks.Roots.{Pages}
 use Rattle.nl_layout.specs.Root.{root_of}
 use Rattle.nl_check.specs.Private.ChangedFiles.{IsToldStill, IsWalkedBeside}
 use Rattle.nl_check.specs.declared.differing.ChangedFile.{ChangedFile}

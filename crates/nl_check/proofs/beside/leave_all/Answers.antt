@@ -1,8 +1,9 @@
 use Rattle.std.proofs.Common.{length, subst}
 use Rattle.std.proofs.lemmas.Result.{on_ok_weaker}
-use Rattle.nl_types.specs.Roots.{Pages}
+use Rattle.nl_types.specs.Blocks.Roots.{Pages}
 use Rattle.nl_layout.specs.Root.{root_of}
-use Rattle.nl_check.specs.Shapes.{At, HasShape, Itself, Of}
+use Rattle.nl_check.specs.Shapes.{At, Itself, Of}
+use Rattle.nl_blocktree.specs.FileShapes.{HasShape}
 use Rattle.nl_check.specs.Private.BesideTrees.{HasLeft, TellsOn}
 use Rattle.nl_check.specs.Private.ChangedFiles.{IsLost, IsLostIn, StandsOf}
 use Rattle.nl_check.proofs.StepPlaces.{left-all, was-root}

@@ -1,6 +1,6 @@
 use Rattle.std.proofs.Common.{ap, subst}
 use Rattle.std.specs.Option.{is_some}
-use Rattle.nl_types.specs.Roots.{Pages}
+use Rattle.nl_types.specs.Blocks.Roots.{Pages}
 use Rattle.nl_layout.specs.Root.{root_of}
 use Rattle.nl_check.specs.Shapes.{Itself, Of}
 use Rattle.nl_check.specs.Private.ChangedFiles.{IsFileMet, IsWholeFile}

@@ -1,5 +1,5 @@
 use Rattle.std.proofs.Common.{List, subst, sym}
-use Rattle.nl_types.specs.Roots.{Pages, Root}
+use Rattle.nl_types.specs.Blocks.Roots.{Pages, Root}
 use Rattle.nl_layout.specs.Root.{root_of}
 use Rattle.nl_check.specs.Private.ChangedFiles.{AreAllListed, AreAllMet, IsWalkedBeside}
 use Rattle.nl_check.specs.Facts.Below.{some-map}

@@ -1,12 +1,12 @@
 use Rattle.std.proofs.Common.{◌≡◌, ◌∙◌, ◌+◌, ◌-◌, ◌*◌, ◌≤◌, ℕ, suc, List, Bool, Option, ap, arith, subst, sym}
 use Rattle.std.specs.Option.{option_and_then}
 use Rattle.std.specs.Prelude.{IsTrue, option_copied}
-use Rattle.nl_types.specs.Roots.{Pages, Root, Tree, page_at, place_at, slot}
+use Rattle.nl_types.specs.Blocks.Roots.{Pages, Root, Tree, page_at, place_at, slot}
 use Rattle.nl_check.specs.Private.ChangedFiles.{ListsBlock, ListsUnder}
 use Rattle.nl_check.specs.Facts.Below.{ok-map}
 use Rattle.nl_check.proofs.BesidePlaces.{tree-slot}
 use Rattle.nl_check.proofs.ListedFiles.{under-block, under-next, under-node, under-same, under-start}
-use Rattle.nl_check.proofs.TreePlaces.{low-offset, lower-offset}
+use Rattle.nl_blocktree.specs.Facts.TreePlaces.{low-offset, lower-offset}
 use Rattle.nl_check.proofs.differing.+list_below.Goals as goal
 
 pub returns-then-are_one-clause-yes : goal.returns-then-are_one-clause-yes

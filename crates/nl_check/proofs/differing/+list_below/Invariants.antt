@@ -1,5 +1,5 @@
 use Rattle.std.proofs.Common.{◌≡◌, ◌≤◌, ◌+◌, ◌-◌, ◌*◌, ℕ}
-use Rattle.nl_types.specs.Roots.{Tree, place_at}
+use Rattle.nl_types.specs.Blocks.Roots.{Tree, place_at}
 use Rattle.nl_check.specs.Private.ChangedFiles.{ListsUnder}
 use Rattle.nl_check.proofs.differing.+list_below.Given as goal
 

@@ -1,6 +1,6 @@
 use Rattle.std.proofs.Common.{◌≡◌}
 use Rattle.std.specs.Prelude.{option_copied}
-use Rattle.nl_types.specs.Roots.{Pages, Root, page_at}
+use Rattle.nl_types.specs.Blocks.Roots.{Pages, Root, page_at}
 use Rattle.nl_check.specs.Private.ChangedFiles.{ListsPlaces}
 use Rattle.nl_check.proofs.differing.list_block.Given as goal
 

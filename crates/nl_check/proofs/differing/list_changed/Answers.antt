@@ -1,6 +1,6 @@
 use Rattle.std.proofs.Common.{Bool, subst, sym}
 use Rattle.std.specs.Prelude.{IsTrue}
-use Rattle.nl_types.specs.Roots.{Pages, Tree}
+use Rattle.nl_types.specs.Blocks.Roots.{Pages, Tree}
 use Rattle.nl_layout.specs.Root.{root_of}
 use Rattle.nl_layout.specs.declared.root.Root.{Root as CodeRoot}
 use Rattle.nl_check.specs.Private.ChangedFiles.{AreAllListed, ListsAll}

@@ -1,13 +1,13 @@
 use Rattle.std.proofs.Common.{◌≡◌, ◌∙◌, ◌-◌, ◌^◌, ◌≤◌, ℕ, Bool, ap, arith, subst, sym}
 use Rattle.std.proofs.Math.Nat.{one-le-pow}
 use Rattle.std.specs.Prelude.{IsTrue}
-use Rattle.nl_types.specs.Roots.{Pages, Root, Tree, place_at}
+use Rattle.nl_types.specs.Blocks.Roots.{Pages, Root, Tree, place_at}
 use Rattle.nl_layout.specs.Root.{root_of}
 use Rattle.nl_check.specs.Private.ChangedFiles.{ListsAll, ListsUnder, of_height}
 use Rattle.nl_check.specs.Facts.Below.{ok-map}
 use Rattle.nl_check.proofs.HeightsBeside.{of-height}
 use Rattle.nl_check.proofs.ListedFiles.{all-listed}
-use Rattle.nl_check.proofs.TreePlaces.{tree-top}
+use Rattle.nl_blocktree.specs.Facts.TreePlaces.{tree-top}
 use Rattle.nl_check.proofs.differing.list_tree.Goals as goal
 
 pub list_below-requires-clause-offset : goal.list_below-requires-clause-offset

@@ -1,6 +1,6 @@
 use Rattle.std.proofs.Common.{◌≡◌, ◌∙◌, ◌*◌, ℕ, sym, subst, arith}
 use Rattle.std.specs.Prelude.{IfSome, MatchOption}
-use Rattle.nl_types.specs.Roots.{page_at}
+use Rattle.nl_types.specs.Blocks.Roots.{page_at}
 use Rattle.nl_layout.specs.Root.{root_of}
 use Rattle.nl_dirs.specs.Listings.{HoldsRecords}
 use Rattle.nl_check.specs.Private.SoundFiles.{AreSoundRecords}

@@ -2,7 +2,7 @@ use Rattle.std.proofs.Common.{◌≡◌, ◌∙◌, ◌*◌, ◌≤◌, ℕ, sub
 use Rattle.std.specs.Prelude.{IfSome}
 use Rattle.nl_check.specs.Private.DirectoryBlocks.{IsAdded}
 use Rattle.nl_check.specs.Facts.Below.{none-from}
-use Rattle.nl_types.specs.Roots.{page_at}
+use Rattle.nl_types.specs.Blocks.Roots.{page_at}
 use Rattle.nl_layout.specs.Root.{root_of}
 use Rattle.nl_check.proofs.DirectoryReading.{AreRead, AreReadOfAny, added-read, added-read_of, next-block, of-all, of-none, read-all, read-none}
 use Rattle.nl_check.proofs.directories.records_of.Goals as goal

@@ -1,5 +1,5 @@
 use Rattle.std.proofs.Common.{◌≡◌, ◌*◌, ◌≤◌}
-use Rattle.nl_types.specs.Roots.{page_at}
+use Rattle.nl_types.specs.Blocks.Roots.{page_at}
 use Rattle.nl_layout.specs.Root.{root_of}
 use Rattle.nl_check.proofs.DirectoryReading.{AreRead, AreReadOfAny}
 use Rattle.nl_check.proofs.directories.records_of.Given as goal

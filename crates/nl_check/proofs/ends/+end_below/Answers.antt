@@ -1,10 +1,10 @@
 use Rattle.std.proofs.Common.{◌≡◌, ◌∙◌, ◌-◌, ◌*◌, ◌+◌, ◌≤◌, ℕ, suc, Some, ap, arith, sym}
 use Rattle.std.specs.Prelude.{option_copied}
-use Rattle.nl_types.specs.Roots.{Tree, Pages, place_at}
-use Rattle.nl_check.specs.Private.TreePlaces.{IsEnd, IsUnder}
+use Rattle.nl_types.specs.Blocks.Roots.{Tree, Pages, place_at}
+use Rattle.nl_blocktree.specs.Facts.TreePlaces.{low-offset, lower-offset}
+use Rattle.nl_blocktree.specs.TreePlaces.{IsEnd, IsUnder}
 use Rattle.nl_check.specs.Facts.Below.{some-map}
 use Rattle.nl_check.proofs.TreeEnds.{child-there, end-data, end-node}
-use Rattle.nl_check.proofs.TreePlaces.{low-offset, lower-offset}
 use Rattle.nl_check.proofs.ends.+end_below.Goals as goal
 
 pub returns-then-level-eq0-clause-end : goal.returns-then-level-eq0-clause-end

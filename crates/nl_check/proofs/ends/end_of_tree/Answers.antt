@@ -1,8 +1,8 @@
 use Rattle.std.proofs.Common.{◌≡◌, ◌∙◌, ◌-◌, ◌^◌, ◌<◌, ◌≤◌, ℕ, arith, subst}
 use Rattle.std.proofs.Math.Nat.{one-le-pow}
-use Rattle.nl_types.specs.Roots.{Pages}
+use Rattle.nl_types.specs.Blocks.Roots.{Pages}
 use Rattle.nl_check.specs.Private.BesideTrees.{IsEndOfTree}
-use Rattle.nl_check.proofs.MetTrees.{top-place}
+use Rattle.nl_blocktree.specs.Facts.TreePlaces.{top-place}
 use Rattle.nl_check.proofs.TreeEnds.{least-height}
 use Rattle.nl_check.proofs.ends.end_of_tree.Goals as goal
 use Rattle.nl_check.proofs.ends.end_of_tree.Goals.{else-height-gt1-via-then-height-gt1+else-count-indexes_below, else-height-gt1-via-else-height-gt1}

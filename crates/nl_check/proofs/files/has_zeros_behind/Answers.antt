@@ -1,4 +1,4 @@
-use Rattle.nl_types.specs.Roots.{page_at}
+use Rattle.nl_types.specs.Blocks.Roots.{page_at}
 use Rattle.nl_layout.specs.Root.{root_of}
 use Rattle.nl_check.proofs.SoundFiles.{zeros-behind, zeros-here}
 use Rattle.nl_check.proofs.files.has_zeros_behind.Goals as goal

@@ -1,6 +1,6 @@
 use Rattle.std.proofs.Common.{◌≡◌, ◌↔◌, Bool, Some, false}
 use Rattle.std.specs.Prelude.{IsTrue}
-use Rattle.nl_types.specs.Roots.{page_at}
+use Rattle.nl_types.specs.Blocks.Roots.{page_at}
 use Rattle.nl_layout.specs.Root.{root_of}
 use Rattle.nl_check.specs.Private.SoundFiles.{IsSoundDirectory}
 use Rattle.nl_check.specs.Private.SoundInodes.{IsSoundInode}

@@ -1,7 +1,7 @@
 use Rattle.std.proofs.Common.{◌≡◌, ◌∙◌, ◌+◌, ◌-◌, ◌*◌, ℕ, suc, List, Option, Some, ap, arith, length, subst, sym, refl}
 use Rattle.std.specs.Prelude.{option_copied}
 use Rattle.std.specs.Option.{option_and_then}
-use Rattle.nl_types.specs.Roots.{Pages, child, slot}
+use Rattle.nl_types.specs.Blocks.Roots.{Pages, child, slot}
 use Rattle.nl_check.specs.Facts.Below.{both, none-from}
 use Rattle.nl_check.proofs.BesidePlaces.{stand-child}
 use Rattle.nl_check.proofs.LeftTrees.{LeftUnder, left-data, left-kept, left-node, left-none, left-slot, left-start}

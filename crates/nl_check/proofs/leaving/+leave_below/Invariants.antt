@@ -1,5 +1,5 @@
 use Rattle.std.proofs.Common.{◌≡◌, ◌+◌, ◌-◌, ◌*◌, ℕ, length}
-use Rattle.nl_types.specs.Roots.{Root}
+use Rattle.nl_types.specs.Blocks.Roots.{Root}
 use Rattle.nl_check.specs.Private.BesideTrees.{StandAt, TellsOn}
 use Rattle.nl_check.proofs.LeftTrees.{LeftUnder}
 use Rattle.nl_check.proofs.leaving.+leave_below.Given as goal

@@ -1,10 +1,10 @@
 use Rattle.std.proofs.Common.{ℕ, suc, sym, subst}
 use Rattle.std.proofs.lemmas.Result.{on_ok_weaker}
 use Rattle.std.specs.Prelude.{OnOk}
-use Rattle.nl_types.specs.Roots.{Pages, Root, Tree}
+use Rattle.nl_types.specs.Blocks.Roots.{Pages, Root, Tree}
 use Rattle.nl_layout.specs.Root.{root_of}
 use Rattle.nl_layout.specs.declared.root.Root.{Root as CodeRoot}
-use Rattle.nl_check.specs.Shapes.{HasShape}
+use Rattle.nl_blocktree.specs.FileShapes.{HasShape}
 use Rattle.nl_check.specs.Private.BesideTrees.{HasLeft, StandAt, StandsAnew}
 use Rattle.nl_check.specs.Private.ChangedFiles.{IsLostIn, of_height}
 use Rattle.nl_check.proofs.FilesBeside.{left-empty, left-tree, stands-top, top-there}

@@ -1,9 +1,10 @@
 use Rattle.std.proofs.Common.{◌≡◌, ◌≢◌, ◌∙◌, ℕ, refl, subst, sym, length, arith}
 use Rattle.std.proofs.lemmas.Option.{slice_get_read}
-use Rattle.nl_types.specs.Roots.{OfChain, Root, kind_of}
+use Rattle.nl_types.specs.Blocks.Roots.{OfChain, Root, kind_of}
 use Rattle.nl_layout.specs.Root.{root_of}
 use Rattle.nl_files.specs.CheckpointRoots.{inode_root}
-use Rattle.nl_check.specs.Shapes.{At, HasShape}
+use Rattle.nl_check.specs.Shapes.{At}
+use Rattle.nl_blocktree.specs.FileShapes.{HasShape}
 use Rattle.nl_check.specs.Private.BesideTrees.{HasLeft}
 use Rattle.nl_check.specs.Private.ChangedFiles.{IsLostIn, StandsOf}
 use Rattle.nl_check.proofs.TurnPlaces.{left-first, left-turn}

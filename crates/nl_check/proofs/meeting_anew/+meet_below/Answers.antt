@@ -1,7 +1,7 @@
 use Rattle.std.proofs.Common.{◌≡◌, ◌∙◌, ◌+◌, ◌-◌, ◌*◌, ℕ, suc, List, Option, Some, ap, arith, length, subst, sym, refl}
 use Rattle.std.specs.Prelude.{option_copied}
 use Rattle.std.specs.Option.{option_and_then}
-use Rattle.nl_types.specs.Roots.{Pages, Root, Tree, child, slot}
+use Rattle.nl_types.specs.Blocks.Roots.{Pages, Root, Tree, child, slot}
 use Rattle.nl_check.specs.Private.BesideTrees.{HasDataUnder, IsMetAnew, StandAt}
 use Rattle.nl_check.specs.Facts.Below.{both, none-from}
 use Rattle.nl_check.proofs.BesidePlaces.{stand-child}

@@ -1,7 +1,7 @@
 use Rattle.std.proofs.Common.{◌≡◌, ◌+◌, ◌-◌, ◌*◌, ◌<◌, ℕ, true, length}
 use Rattle.std.specs.Option.{IsSome}
-use Rattle.nl_types.specs.Roots.{Root, Tree}
-use Rattle.nl_check.specs.Shapes.{HasShape}
+use Rattle.nl_types.specs.Blocks.Roots.{Root, Tree}
+use Rattle.nl_blocktree.specs.FileShapes.{HasShape}
 use Rattle.nl_check.specs.Private.BesideTrees.{HasDataUnder, IsMetAnew, StandAt, TellsOn}
 use Rattle.nl_check.proofs.meeting_anew.+meet_below.Given as goal
 

@@ -1,5 +1,5 @@
 use Rattle.std.proofs.Common.{Option, subst, sym}
-use Rattle.nl_types.specs.Roots.{Pages}
+use Rattle.nl_types.specs.Blocks.Roots.{Pages}
 use Rattle.nl_layout.specs.declared.inode.Inode.{Inode}
 use Rattle.nl_check.specs.Private.SoundInodes.{IsSoundInode}
 use Rattle.nl_check.proofs.SoundOnes.{none-sound}

@@ -1,7 +1,7 @@
 use Rattle.std.proofs.Common.{◌≡◌, ℕ, Bool, List, ap, subst, sym}
 use Rattle.std.specs.Option.{is_some}
 use Rattle.std.specs.Prelude.{IsTrue}
-use Rattle.nl_types.specs.Roots.{Pages, Root}
+use Rattle.nl_types.specs.Blocks.Roots.{Pages, Root}
 use Rattle.nl_layout.specs.Root.{root_of}
 use Rattle.nl_files.specs.CheckpointRoots.{inode_root}
 use Rattle.nl_check.specs.Private.BesideTrees.{TellsOn}

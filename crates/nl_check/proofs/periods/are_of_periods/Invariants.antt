@@ -1,5 +1,5 @@
 use Rattle.std.proofs.Common.{◌≡◌, ◌<◌, ℕ}
-use Rattle.nl_check.specs.MetFiles.{is_met}
+use Rattle.nl_blocktree.specs.Walked.{is_met}
 use Rattle.nl_check.specs.Periods.{has_in}
 use Rattle.nl_check.proofs.periods.are_of_periods.Given as goal
 

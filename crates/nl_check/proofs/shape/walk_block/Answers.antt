@@ -1,5 +1,5 @@
-use Rattle.std.proofs.Common.{◌≡◌, ◌+◌, ◌*◌, ℕ, Ok, ap, arith, refl, subst, ◌∙◌}
-use Rattle.nl_types.specs.Roots.{Pages}
+use Rattle.std.proofs.Common.{◌≡◌, ◌+◌, ◌*◌, ℕ, Ok, ap, arith, refl, subst, sym, ◌∙◌}
+use Rattle.nl_types.specs.Blocks.Roots.{Pages}
 use Rattle.nl_check.specs.Private.Walks.{AreKnown}
 use Rattle.nl_check.specs.Facts.Below.{both, found-at, none-from}
 use Rattle.nl_check.proofs.KnownInodes.{inode-at-place, page-is-block}
@@ -31,9 +31,10 @@ returns-in_default-clause-no g c = λ _ root at k s.
     let pages : Pages = g.V.VRead.pages c.args.store.now in
     c.in_ok-now.ensures.no (ap Ok (none-from c.in_ok-now.field-0 c.in_default.not-Some)) root
     (inode-at-place pages root c.args.index c.loop-place.place
-    (8 * c.args.index + c.loop-place.place) c.args.page.now c.inode_at_place-inode.result refl
+    c.new-number.result c.args.page.now c.inode_at_place-inode.result c.new-number.ensures
     c.loop-place-test.true c.inode_at_place-inode.ensures at)
-    (c.loop-place.invariant.known root at k) s
+    (subst (λ (n : ℕ). AreKnown pages root n c.loop-place.found.met c.loop-place.found.kinds c.loop-place.are_sound)
+    (sym c.new-number.ensures) (c.loop-place.invariant.known root at k)) s
 
 pub loop-place-preserved : goal.loop-place-preserved
 loop-place-preserved g c =
@@ -46,14 +47,16 @@ loop-place-preserved g c =
           let same = c.walk_inode.ensures.count in
           omega (arith, low, same);
       known = λ root at k.
-          let e : 8 * c.args.index + c.loop-place.place + 1 ≡ 8 * c.args.index + (c.loop-place.place + 1) =
-          omega arith in
+          let e : c.new-number.result + 1 ≡ 8 * c.args.index + (c.loop-place.place + 1) =
+          omega (arith, c.new-number.ensures) in
           subst (λ (n : ℕ). AreKnown pages root n c.walk_inode.new.found.met c.walk_inode.new.found.kinds c.in-Some.now) e
           (known root
           (inode-at-place pages root c.args.index c.loop-place.place
-          (8 * c.args.index + c.loop-place.place) c.args.page.now c.inode_at_place-inode.result refl
+          c.new-number.result c.args.page.now c.inode_at_place-inode.result c.new-number.ensures
           c.loop-place-test.true c.inode_at_place-inode.ensures at)
-          (c.loop-place.invariant.known root at k));
+          (subst (λ (n : ℕ). AreKnown pages root n c.loop-place.found.met c.loop-place.found.kinds
+          c.loop-place.are_sound)
+          (sym c.new-number.ensures) (c.loop-place.invariant.known root at k)));
     }
 
 pub returns-clause-yes : goal.returns-clause-yes

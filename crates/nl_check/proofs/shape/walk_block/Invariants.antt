@@ -1,6 +1,6 @@
 use Rattle.std.proofs.Common.{◌≡◌, ◌+◌, ◌*◌, ◌<◌, ℕ, Some, length}
 use Rattle.std.specs.Option.{IsSome}
-use Rattle.nl_types.specs.Roots.{Root, page_at}
+use Rattle.nl_types.specs.Blocks.Roots.{Root, page_at}
 use Rattle.nl_check.specs.Private.Walks.{AreKnown}
 use Rattle.nl_check.proofs.shape.walk_block.Given as goal
 

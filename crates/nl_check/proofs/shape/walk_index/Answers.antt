@@ -1,6 +1,6 @@
 use Rattle.std.proofs.Common.{◌∙◌, ap, sym}
 use Rattle.std.specs.Prelude.{option_copied}
-use Rattle.nl_types.specs.Roots.{Pages}
+use Rattle.nl_types.specs.Blocks.Roots.{Pages}
 use Rattle.nl_check.specs.Facts.Below.{some-both}
 use Rattle.nl_check.proofs.KnownInodes.{block-of-hole, block-of-page, known-hole}
 use Rattle.nl_check.proofs.shape.walk_index.Goals as goal

@@ -1,5 +1,5 @@
 use Rattle.std.proofs.Common.{Ok, ap, arith, refl, ◌∙◌}
-use Rattle.nl_types.specs.Roots.{Pages}
+use Rattle.nl_types.specs.Blocks.Roots.{Pages}
 use Rattle.nl_layout.specs.Root.{root_of}
 use Rattle.nl_check.specs.Private.Walks.{IsBlockOf}
 use Rattle.nl_check.specs.Facts.Below.{below-more, found-at, none-from}

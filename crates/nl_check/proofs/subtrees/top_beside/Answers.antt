@@ -1,10 +1,10 @@
 use Rattle.std.proofs.Common.{rules, ◌≡◌, ◌∙◌, ap, sym}
-use Rattle.nl_types.specs.Roots.{place_at}
+use Rattle.nl_types.specs.Blocks.Roots.{place_at}
 use Rattle.nl_layout.specs.Root.{root_of}
 use Rattle.nl_layout.specs.declared.root.Root.{Root as CodeRoot}
 use Rattle.nl_check.specs.Private.ChangedFiles.{of_height}
 use Rattle.nl_check.proofs.HeightsBeside.{top-other, top-same}
-use Rattle.nl_check.proofs.MetPlaces.{empty-place}
+use Rattle.nl_blocktree.specs.Facts.MetPlaces.{empty-place}
 use Rattle.nl_check.proofs.subtrees.top_beside.Goals as goal
 
 pub returns-in-Empty : goal.returns-in-Empty

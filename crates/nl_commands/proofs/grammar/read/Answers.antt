@@ -1,6 +1,6 @@
 use Rattle.std.proofs.Common.{◌≡◌, subst, true, map, List}
 use Rattle.clap.specs.Words.{App, Text}
-use Rattle.nl_types.specs.Calls.{IsUnless}
+use Rattle.nl_types.specs.Plain.Calls.{IsUnless}
 use Rattle.nl_commands.specs.declared.error.LineError.TheVariants.{Memory}
 use Rattle.nl_commands.specs.Grammars.{is_readable, parsed}
 use Rattle.nl_commands.proofs.grammar.read.Goals as goal

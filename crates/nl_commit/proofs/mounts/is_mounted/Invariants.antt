@@ -1,6 +1,6 @@
 use Rattle.std.proofs.Common.{◌≡◌, drop}
 use Rattle.std.specs.Prelude.{map}
-use Rattle.nl_types.specs.Worlds.{is_mounted}
+use Rattle.nl_types.specs.Plain.Worlds.{is_mounted}
 use Rattle.nl_commit.specs.Volume.{mount_of}
 use Rattle.nl_commit.proofs.mounts.is_mounted.Given as goal
 

@@ -1,5 +1,5 @@
 use Rattle.std.proofs.Common.{refl}
-use Rattle.nl_types.specs.Roots.{Pages, pages_of}
+use Rattle.nl_types.specs.Blocks.Roots.{Pages, pages_of}
 use Rattle.nl_vstore.specs.Stores.{content_in}
 use Rattle.nl_core.proofs.Closed.{table-sized, table-sizes}
 use Rattle.nl_core.proofs.closing.all_entries.Goals as goal

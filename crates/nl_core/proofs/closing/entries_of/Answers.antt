@@ -1,6 +1,6 @@
 use Rattle.std.proofs.Common.{List, arith, subst, sym}
 use Rattle.std.proofs.lemmas.List.{take_all, take_more}
-use Rattle.nl_types.specs.Roots.{pages_of}
+use Rattle.nl_types.specs.Blocks.Roots.{pages_of}
 use Rattle.nl_vstore.specs.Stores.{content_in}
 use Rattle.nl_cpfile.specs.Facts.ImageEntries.{zip_push}
 use Rattle.nl_cpfile.specs.declared.checkpoint.Checkpoint.{Checkpoint}

@@ -1,5 +1,5 @@
 use Rattle.std.proofs.Common.{take}
-use Rattle.nl_types.specs.Roots.{pages_of}
+use Rattle.nl_types.specs.Blocks.Roots.{pages_of}
 use Rattle.nl_vstore.specs.Stores.{content_in}
 use Rattle.nl_core.specs.Private.Closed.{AreSized}
 use Rattle.nl_core.proofs.closing.entries_of.Given as goal

@@ -4,10 +4,9 @@ use Rattle.std.specs.List.{AllZip}
 use Rattle.nl_cpfile.specs.Images.{HasRoot, IsEntryOf}
 use Rattle.nl_cpfile.specs.Tables.{all}
 use Rattle.nl_vstore.specs.Stores.{content_in}
-use Rattle.nl_commit.specs.CleaningEvents.{kept_numbers}
 use Rattle.nl_commit.specs.Layout.{Layout, layout_of}
 use Rattle.nl_core.specs.Opened.{IsAtRest}
-use Rattle.nl_events.specs.Facts.CountedPens.{latest-of, tells-needs}
+use Rattle.nl_events.specs.Facts.CountedPens.{latest-of}
 use Rattle.nl_core.proofs.OpenedImages.{is-opened, kept-rooted, latest-was-checked, opened-rest, own-read}
 use Rattle.nl_core.proofs.RestoredImages.{image-opened}
 use Rattle.nl_core.proofs.image.open_read.Goals as goal
@@ -45,8 +44,7 @@ invariant_of-parts g c =
     record {
       pen = pen;
       counts =
-          c.in_ok-needed.ensures.counted l.lists.table.latest.number (kept_numbers l.lists)
-          (tells-needs l.lists) (latest-of l pen.sound);
+          c.in_ok-needed.ensures.counted l.lists.table.latest.number (latest-of l pen.sound);
     }
 
 pub returns-clause-rest : goal.returns-clause-rest

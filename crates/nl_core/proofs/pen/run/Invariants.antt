@@ -1,6 +1,6 @@
 use Rattle.std.proofs.Common.{◌≡◌, ◌≤◌, take, length, vec_len}
 use Rattle.std.specs.Prelude.{vec_capacity}
-use Rattle.nl_types.specs.Runs.{Run}
+use Rattle.nl_types.specs.Plain.Runs.{Run}
 use Rattle.nl_commit.specs.Layout.{Does, unshared}
 use Rattle.nl_core.proofs.pen.run.Given as goal
 

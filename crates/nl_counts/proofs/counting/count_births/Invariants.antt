@@ -1,6 +1,6 @@
 use Rattle.std.proofs.Common.{ℕ, take}
 use Rattle.std.specs.Prelude.{map}
-use Rattle.nl_types.specs.PartialMaps.{Partial}
+use Rattle.nl_types.specs.Blocks.PartialMaps.{Partial}
 use Rattle.nl_vstore.specs.Batches.{number_of_payload}
 use Rattle.nl_vstore.specs.Stores.{address_in}
 use Rattle.nl_counts.specs.Private.Adding.{GetBlocks, mixed}

@@ -1,5 +1,5 @@
 use Rattle.std.proofs.Common.{ℕ, take}
-use Rattle.nl_types.specs.PartialMaps.{Partial}
+use Rattle.nl_types.specs.Blocks.PartialMaps.{Partial}
 use Rattle.nl_vstore.specs.Stores.{address_in}
 use Rattle.nl_counts.specs.Private.Adding.{LeaveSegment, mixed}
 use Rattle.nl_counts.specs.Private.Places.{AreCountsIn}

@@ -1,5 +1,6 @@
 use Rattle.std.proofs.Common.{◌≡◌, ◌≤◌}
-use Rattle.nl_vstore.specs.Located.{by_period, needs}
+use Rattle.nl_types.specs.Blocks.Entries.{is_needed}
+use Rattle.nl_vstore.specs.Located.{needs}
 use Rattle.nl_vstore.specs.Stores.{content_in}
 use Rattle.nl_counts.specs.Private.Listed.{AreListed, HasLetGoAll}
 use Rattle.nl_counts.proofs.letting_go.let_go.Given as goal
@@ -10,7 +11,7 @@ invariant-loop-index g l = record {
   high : l.index ≤ l.to;
   listed : AreListed (g.V.Vstore.store l.store) l.counts l.ends.ended;
   gone : HasLetGoAll
-      (needs (by_period (g.K.Keeping.test l.keeping)) (content_in (g.V.Vstore.store l.store))) l.from l.index
+      (needs (is_needed (g.K.Keeping.kept l.keeping)) (content_in (g.V.Vstore.store l.store))) l.from l.index
       l.fn.ends.ended l.ends.ended;
   room : l.ends.room ≡ l.fn.ends.room;
 }

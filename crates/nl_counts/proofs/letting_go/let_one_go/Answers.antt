@@ -1,5 +1,6 @@
 use Rattle.std.proofs.Common.{subst, sym, ◌∙◌}
-use Rattle.nl_vstore.specs.Located.{by_period, needs}
+use Rattle.nl_types.specs.Blocks.Entries.{is_needed}
+use Rattle.nl_vstore.specs.Located.{needs}
 use Rattle.nl_vstore.specs.Stores.{content_in}
 use Rattle.nl_counts.specs.EndLists.{RoomyEnds}
 use Rattle.nl_counts.specs.Private.Listed.{AreListed}
@@ -14,7 +15,7 @@ returns-then-take_off-clause-listed g c =
     (taken-listed (follow-laws c.counts_follow_blocks.ensures.added c.counts_follow_blocks.ensures.taken
     c.counts_follow_blocks.ensures.few c.counts_follow_blocks.ensures.some)
     store (g.met.V.Vstore.is_store c.args.store.now)
-    (needs (by_period (g.K.Keeping.test c.args.keeping.now)) (content_in store)) c.args.counts.now
+    (needs (is_needed (g.K.Keeping.kept c.args.keeping.now)) (content_in store)) c.args.counts.now
     c.take_off.new.counts
     c.args.ends.now.ended c.args.index c.in-Some.number c.requires.listed
     (record { within = c.requires.index; there = sym c.number.ensures ∙ c.in-Some.is })

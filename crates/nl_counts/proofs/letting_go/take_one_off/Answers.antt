@@ -1,5 +1,6 @@
 use Rattle.std.proofs.Common.{sym, ◌∙◌}
-use Rattle.nl_vstore.specs.Located.{by_period, needs}
+use Rattle.nl_types.specs.Blocks.Entries.{is_needed}
+use Rattle.nl_vstore.specs.Located.{needs}
 use Rattle.nl_vstore.specs.Stores.{content_in}
 use Rattle.nl_counts.proofs.LetGo.{one-taken-off}
 use Rattle.nl_counts.proofs.SegmentsOf.{follow-laws}
@@ -11,7 +12,7 @@ returns g c = λ left listed lists.
     one-taken-off (follow-laws c.counts_follow_blocks.ensures.added c.counts_follow_blocks.ensures.taken
     c.counts_follow_blocks.ensures.few c.counts_follow_blocks.ensures.some)
     store (g.met.V.Vstore.is_store c.args.store.now)
-    (needs (by_period (g.K.Keeping.test c.args.keeping.now)) (content_in store)) c.args.counts.now
+    (needs (is_needed (g.K.Keeping.kept c.args.keeping.now)) (content_in store)) c.args.counts.now
     c.take_off.new.counts
     left c.args.index c.in-Some.number listed
     (record { within = lists.within; there = lists.there ∙ (sym c.number.ensures ∙ c.in-Some.is) })

@@ -1,5 +1,6 @@
 use Rattle.std.proofs.Common.{◌<◌, length, arith}
-use Rattle.nl_vstore.specs.Located.{by_period, needs}
+use Rattle.nl_types.specs.Blocks.Entries.{is_needed}
+use Rattle.nl_vstore.specs.Located.{needs}
 use Rattle.nl_vstore.specs.Stores.{content_in}
 use Rattle.nl_counts.proofs.LetGo.{none-yet, one-more, still-listed}
 use Rattle.nl_counts.proofs.letting_go.take_run_off.Goals as goal
@@ -11,7 +12,7 @@ loop-index-init g c = record {
   left = (
     c.args.ends.now.ended,
     c.requires.listed,
-    none-yet (needs (by_period (g.K.Keeping.test c.args.keeping.now))
+    none-yet (needs (is_needed (g.K.Keeping.kept c.args.keeping.now))
         (content_in (g.V.Vstore.store c.args.store.now)))
         c.args.from c.args.ends.now.ended,
   );
@@ -20,7 +21,7 @@ loop-index-init g c = record {
 pub take_one_off-requires : goal.take_one_off-requires
 take_one_off-requires g c =
     let needed =
-    needs (by_period (g.K.Keeping.test c.args.keeping.now))
+    needs (is_needed (g.K.Keeping.kept c.args.keeping.now))
     (content_in (g.V.Vstore.store c.args.store.now)) in
     let (left, listed, all) = c.loop-index.invariant.left in
     let low : c.loop-index.index < length c.args.ends.now.ended = omega arith in
@@ -29,7 +30,7 @@ take_one_off-requires g c =
 pub loop-index-preserved : goal.loop-index-preserved
 loop-index-preserved g c =
     let needed =
-    needs (by_period (g.K.Keeping.test c.args.keeping.now))
+    needs (is_needed (g.K.Keeping.kept c.args.keeping.now))
     (content_in (g.V.Vstore.store c.args.store.now)) in
     let (left, listed, all) = c.loop-index.invariant.left in
     let low : c.loop-index.index < length c.args.ends.now.ended = omega arith in

@@ -1,5 +1,6 @@
 use Rattle.std.proofs.Common.{◌≤◌, List}
-use Rattle.nl_vstore.specs.Located.{by_period, needs}
+use Rattle.nl_types.specs.Blocks.Entries.{is_needed}
+use Rattle.nl_vstore.specs.Located.{needs}
 use Rattle.nl_vstore.specs.Stores.{content_in}
 use Rattle.nl_counts.specs.declared.ends.Ended.{Ended}
 use Rattle.nl_counts.specs.Private.Listed.{AreListed, HasLetGoAll}
@@ -10,6 +11,6 @@ invariant-loop-index g l = record {
   low : l.from ≤ l.index;
   high : l.index ≤ l.to;
   left : (left : List Ended) × AreListed (g.V.Vstore.store l.store) l.counts left
-      × HasLetGoAll (needs (by_period (g.K.Keeping.test l.keeping)) (content_in (g.V.Vstore.store l.store)))
+      × HasLetGoAll (needs (is_needed (g.K.Keeping.kept l.keeping)) (content_in (g.V.Vstore.store l.store)))
       l.from l.index l.ends.ended left;
 }

@@ -1,11 +1,11 @@
-use Rattle.nl_vstore.specs.Located.{by_period}
+use Rattle.nl_types.specs.Blocks.Entries.{is_needed}
 use Rattle.nl_counts.proofs.SegmentsOf.{follow-laws, have-room}
 use Rattle.nl_counts.proofs.WalkedCounts.{none-walked}
 use Rattle.nl_counts.proofs.walking.walk.Goals as goal
 
 pub loop-below-init : goal.loop-below-init
 loop-below-init g c = rw c.new-ended.ensures.items
-    (none-walked (g.V.Vstore.store c.args.store.now) (by_period (g.K.Keeping.test c.args.keeping.now))
+    (none-walked (g.V.Vstore.store c.args.store.now) (is_needed (g.K.Keeping.kept c.args.keeping.now))
     (g.met.V.Vstore.is_store c.args.store.now) c.args.counts.now c.requires)
 
 pub walk_one-requires : goal.walk_one-requires

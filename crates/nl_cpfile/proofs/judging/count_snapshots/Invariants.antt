@@ -1,6 +1,6 @@
 use Rattle.std.proofs.Common.{◌≡◌, ◌≤◌, length, take}
 use Rattle.std.specs.List.{filter}
-use Rattle.nl_types.specs.Rows.{is_snapshot}
+use Rattle.nl_types.specs.Plain.Rows.{is_snapshot}
 use Rattle.nl_cpfile.proofs.judging.count_snapshots.Given as goal
 
 abbrev pub invariant-loop-checkpoint : goal.invariant-loop-checkpoint

@@ -1,5 +1,5 @@
 use Rattle.std.proofs.Common.{◌≡◌, take}
-use Rattle.nl_types.specs.Rows.{rows_between, judged_range}
+use Rattle.nl_types.specs.Plain.Rows.{rows_between, judged_range}
 use Rattle.nl_cpfile.specs.Tables.{rows_of}
 use Rattle.nl_cpfile.proofs.judging.judge_all.Given as goal
 

@@ -1,7 +1,7 @@
 use Rattle.std.proofs.Common.{◌∷◌, [], rules, tests}
 use Rattle.std.proofs.lemmas.Iterator.{YieldsList-from_map, YieldsList-from_slice, YieldsList-from_take, items_from_collect}
 use Rattle.std.proofs.lemmas.Iterator.Consumers.{YieldsList-at, YieldsList-from_chain, YieldsList-from_filter}
-use Rattle.nl_types.specs.Rows.{is_shown}
+use Rattle.nl_types.specs.Plain.Rows.{is_shown}
 use Rattle.nl_cpfile.specs.Tables.{checkpoint_row}
 use Rattle.nl_cpfile.proofs.listing.ascending.Goals as goal
 

@@ -1,5 +1,5 @@
 use Rattle.std.proofs.Common.{◌<◌, ◌+◌, length, drop, sym, ap, ◌∙◌}
-use Rattle.nl_types.specs.PartialMaps.{adjust_all}
+use Rattle.nl_types.specs.Blocks.PartialMaps.{adjust_all}
 use Rattle.nl_dat.specs.Table.{entry_in, ended_entry}
 use Rattle.nl_dat.proofs.Tables.{adjust_all_step, of_read}
 use Rattle.nl_dat.proofs.entries.end_entries.Goals as goal

@@ -1,5 +1,5 @@
 use Rattle.std.proofs.Common.{◌≡◌, drop, length}
-use Rattle.nl_types.specs.PartialMaps.{adjust_all}
+use Rattle.nl_types.specs.Blocks.PartialMaps.{adjust_all}
 use Rattle.nl_dat.specs.Table.{entry_in, ended_entry}
 use Rattle.nl_dat.proofs.entries.end_entries.Given as goal
 

@@ -1,8 +1,8 @@
 use Rattle.std.proofs.Common.{◌≡◌, ℕ, ◌<◌, ◌+◌, List, length, drop, get_or, sym, ap, ◌∙◌, subst, arith}
 use Rattle.std.specs.List.{All}
 use Rattle.std.proofs.lemmas.List.{get_or-map, length-map}
-use Rattle.nl_types.specs.PartialMaps.{put_each}
-use Rattle.nl_types.specs.Entries.{number_of}
+use Rattle.nl_types.specs.Blocks.PartialMaps.{put_each}
+use Rattle.nl_types.specs.Blocks.Entries.{number_of}
 use Rattle.nl_layout.specs.declared.tag.Tag.{Tag}
 use Rattle.nl_vstore.specs.Batches.{birth_of_item, births_of}
 use Rattle.nl_dat.specs.Table.{entry_in, new_entry}

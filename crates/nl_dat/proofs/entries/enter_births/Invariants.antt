@@ -1,6 +1,6 @@
 use Rattle.std.proofs.Common.{◌≡◌, drop, length}
-use Rattle.nl_types.specs.PartialMaps.{put_each}
-use Rattle.nl_types.specs.Entries.{number_of}
+use Rattle.nl_types.specs.Blocks.PartialMaps.{put_each}
+use Rattle.nl_types.specs.Blocks.Entries.{number_of}
 use Rattle.nl_vstore.specs.Batches.{births_of}
 use Rattle.nl_dat.specs.Table.{entry_in, new_entry}
 use Rattle.nl_dat.proofs.entries.enter_births.Given as goal

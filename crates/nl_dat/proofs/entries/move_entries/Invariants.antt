@@ -1,5 +1,5 @@
 use Rattle.std.proofs.Common.{◌≡◌, drop, length}
-use Rattle.nl_types.specs.PartialMaps.{adjust_each}
+use Rattle.nl_types.specs.Blocks.PartialMaps.{adjust_each}
 use Rattle.nl_dat.specs.Table.{entry_in, moved_entry}
 use Rattle.nl_dat.proofs.entries.move_entries.Given as goal
 

@@ -2,7 +2,7 @@ use Rattle.std.proofs.Common.{◌≡◌, ◌∙◌, Option, None, arith, refl, s
 use borrow.Author.Count.{below_more}
 use Rattle.std.specs.Option.{IfSome}
 use Rattle.std.proofs.lemmas.List.{get_or_default}
-use Rattle.nl_types.specs.Segments.{IsUsed}
+use Rattle.nl_types.specs.Blocks.Segments.{IsUsed}
 use Rattle.nl_space.specs.Content.{SpaceContent}
 use Rattle.nl_dat.specs.declared.entries.DatEntry.{DatEntry}
 use Rattle.nl_dat.specs.Images.{HasOwn}

@@ -1,6 +1,6 @@
 use Rattle.std.proofs.Common.{◌≡◌, ◌*◌, ◌∙◌, List, Option, ap, refl, subst, sym}
 use Rattle.std.proofs.lemmas.Result.{err_from_is_err_and}
-use Rattle.nl_types.specs.Segments.{total_blocks}
+use Rattle.nl_types.specs.Blocks.Segments.{total_blocks}
 use Rattle.nl_dat.specs.declared.entries.DatEntry.{DatEntry}
 use Rattle.nl_dat.specs.Images.{entry_told, table_of}
 use Rattle.nl_dat.specs.Table.{addresses_of}

@@ -1,7 +1,7 @@
 use Rattle.std.proofs.Common.{◌≡◌, ℕ, ◌-◌, ◌*◌, Some, None, List, Option, sym, ap, ◌∙◌}
 use Rattle.std.specs.Prelude.{slice_index_or}
 use Rattle.std.specs.Option.{option_map}
-use Rattle.nl_types.specs.Segments.{Segments}
+use Rattle.nl_types.specs.Blocks.Segments.{Segments}
 use Rattle.nl_layout.specs.declared.tag.Tag.{Tag}
 use Rattle.nl_space.specs.Content.{Payload, SpaceContent, payload_tag}
 use Rattle.nl_dat.proofs.Loading.{found, loaded}

@@ -1,6 +1,6 @@
 use Rattle.std.proofs.Common.{◌≡◌, sym, ◌∙◌, ap}
 use Rattle.std.specs.Ordering.{is_lt}
-use Rattle.nl_types.specs.Paths.{Name, name_cmp}
+use Rattle.nl_types.specs.Plain.Paths.{Name, name_cmp}
 use Rattle.nl_dirs.proofs.Ascending.{behind_last, last_before}
 use Rattle.nl_dirs.proofs.reading.is_behind.Goals as goal
 

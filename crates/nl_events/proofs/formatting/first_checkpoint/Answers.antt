@@ -1,8 +1,6 @@
 use Rattle.std.proofs.Common.{[], ◌∷◌, ◌++◌}
 use Rattle.std.proofs.lemmas.Result.{err_from_is_err_and}
-use Rattle.nl_commit.specs.CleaningEvents.{kept_numbers}
 use Rattle.nl_commit.specs.Layout.{layout_of}
-use Rattle.nl_events.specs.Facts.CountedPens.{tells-needs}
 use Rattle.nl_events.proofs.FirstCounts.{blank-counted, blank-gone, first-written}
 use Rattle.nl_events.proofs.Formats.{can_be-drafted, has_few-names, new-volume, refused-first}
 use Rattle.nl_events.proofs.formatting.first_checkpoint.Goals as goal
@@ -92,7 +90,7 @@ returns-clause-pen g c =
           (new-volume geometry device failures old is new c.args.now left has.writes store
           (g.met.V.Vstore.is_store c.write_checkpoint.new.store)
           c.forget_earlier.ensures).is_pen;
-      counts = c.removed.ensures ((0 ∷ []) ++ draft.checkpoint.number ∷ []) (kept_numbers left)
+      counts = c.removed.ensures ((0 ∷ []) ++ draft.checkpoint.number ∷ [])
           (c.written.ensures old.store (0 ∷ [])
           (blank-counted geometry device failures old new c.args.now draft.batch is has
           c.unused_stores_are_counted.ensures c.args.needed.now c.write_checkpoint.new.needed
@@ -101,6 +99,5 @@ returns-clause-pen g c =
           draft.checkpoint.number c.in_ok-draft.ensures.number))
           (blank-gone geometry device failures old new c.args.now draft.batch is has left c.new.result
           c.new-2.result draft.checkpoint.number
-          c.forget_earlier.ensures c.new.ensures c.new-2.ensures c.in_ok-draft.ensures.number)
-          (tells-needs left);
+          c.forget_earlier.ensures c.new.ensures c.new-2.ensures c.in_ok-draft.ensures.number);
     }

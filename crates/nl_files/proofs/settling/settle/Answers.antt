@@ -2,8 +2,8 @@ use Rattle.std.proofs.Common.{◌≡◌, ℕ, List, [], sym, subst}
 use Rattle.nl_layout.specs.Root.{root_of}
 use Rattle.nl_vstore.specs.Batches.{Changes}
 use Rattle.nl_vstore.specs.Stores.{capacity, content_in}
-use Rattle.nl_types.specs.Entries.{Content}
-use Rattle.nl_types.specs.Roots.{Root, pages_of}
+use Rattle.nl_types.specs.Blocks.Entries.{Content}
+use Rattle.nl_types.specs.Blocks.Roots.{Root, pages_of}
 use Rattle.nl_ifile.specs.declared.change.InodeChange.{InodeChange}
 use Rattle.nl_tree.specs.declared.overlay.Overlay.{Overlay}
 use Rattle.nl_tree.specs.Became.{Became, Current}

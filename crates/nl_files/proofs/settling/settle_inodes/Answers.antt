@@ -1,7 +1,7 @@
 use Rattle.std.proofs.Common.{ℕ, List, ap, subst, ◌∙◌}
 use Rattle.std.proofs.lemmas.Result.{IfOk-from_err}
 use Rattle.nl_types.specs.declared.error.VolError.TheVariants.{Memory}
-use Rattle.nl_types.specs.Roots.{pages_of}
+use Rattle.nl_types.specs.Blocks.Roots.{pages_of}
 use Rattle.nl_layout.specs.Root.{root_of}
 use Rattle.nl_vstore.specs.Stores.{content_in}
 use Rattle.nl_tree.specs.Became.{Became, EachMayBecome}

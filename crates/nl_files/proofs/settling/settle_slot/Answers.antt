@@ -1,8 +1,8 @@
-use Rattle.std.proofs.Common.{◌≡◌, ℕ, ◌≤◌, Bool, cond, Option, Some, None, List, [], ◌++◌, sym, subst, ap, ◌∙◌}
+use Rattle.std.proofs.Common.{◌≡◌, ℕ, ◌≤◌, Bool, cond, Option, Some, None, List, [], ◌++◌, refl, sym, subst, ap, ◌∙◌}
 use Rattle.std.specs.List.{cons_option}
 use Rattle.std.specs.Option.{option_map}
 use Rattle.std.proofs.lemmas.Result.{IfOk-from_err, IfOk-weaker}
-use Rattle.nl_types.specs.Roots.{Pages, pages_of}
+use Rattle.nl_types.specs.Blocks.Roots.{Pages, pages_of}
 use Rattle.nl_layout.specs.Root.{root_of}
 use Rattle.nl_layout.specs.declared.inode.Inode.{Inode}
 use Rattle.nl_vstore.specs.Stores.{content_in}
@@ -22,7 +22,7 @@ use Rattle.nl_files.proofs.settling.settle_slot.Goals as goal
 pub settle_one-requires-clause-in_use : goal.settle_one-requires-clause-in_use
 settle_one-requires-clause-in_use g c =
     let content = content_in (g.V.Vstore.store c.args.store.now) in
-    let number = c.new-number.result in
+    let number = c.args.number in
     let old : c.inode-old.result ≡ inode_at (pages_of content) (root_of c.args.root.now) number =
     c.inode-old.ensures
     ∙ ap (λ (pages : Pages). inode_at pages (root_of c.args.root.now) number)
@@ -33,7 +33,7 @@ settle_one-requires-clause-in_use g c =
 pub settle_one-requires-clause-sized : goal.settle_one-requires-clause-sized
 settle_one-requires-clause-sized g c =
     let content = content_in (g.V.Vstore.store c.args.store.now) in
-    let number = c.new-number.result in
+    let number = c.args.number in
     let old : c.inode-old.result ≡ inode_at (pages_of content) (root_of c.args.root.now) number =
     c.inode-old.ensures
     ∙ ap (λ (pages : Pages). inode_at pages (root_of c.args.root.now) number)
@@ -44,7 +44,7 @@ settle_one-requires-clause-sized g c =
 pub returns-clause-settling : goal.returns-clause-settling
 returns-clause-settling g c =
     let content = content_in (g.V.Vstore.store c.args.store.now) in
-    let number = c.new-number.result in
+    let number = c.args.number in
     let old : c.inode-old.result ≡ inode_at (pages_of content) (root_of c.args.root.now) number =
     c.inode-old.ensures
     ∙ ap (λ (pages : Pages). inode_at pages (root_of c.args.root.now) number)
@@ -54,7 +54,7 @@ returns-clause-settling g c =
     slot-settled content (root_of c.args.root.now) c.args.number number c.inode-old.result c.in_ok-new.new
     c.args.slot.now c.args.batch.now c.settle_one.new.batch c.args.inodes.now.items
     c.push_inode.new.inodes.items
-    c.requires.checkpoint c.new-number.ensures old c.if-not-slot.false c.requires.changes
+    c.requires.checkpoint refl old c.if-not-slot.false c.requires.changes
     c.in_ok-new.ensures.settled pushed base before left all stores holding h)
     c.push_inode.ensures.ok
 

@@ -1,5 +1,5 @@
 use Rattle.std.proofs.Common.{◌≡◌, ◌↔◌, IsTrue, true, false, sym, refl, subst, ◌∙◌}
-use Rattle.nl_types.specs.Paths.{same_path}
+use Rattle.nl_types.specs.Plain.Paths.{same_path}
 use Rattle.nl_folders.proofs.Sameness.{entry_by}
 use Rattle.nl_folders.proofs.differences.is_same_entry.Goals as goal
 

@@ -2,8 +2,8 @@ use Rattle.std.proofs.Common.{◌≡◌, List, [], ◌∷◌, ◌++◌, length, 
 use Rattle.std.proofs.lemmas.Result.{err_from_is_err_and}
 use Rattle.nl_types.specs.declared.kind.Kind.TheVariants.{Directory}
 use Rattle.nl_types.specs.declared.reply.Node.{Node}
-use Rattle.nl_types.specs.Paths.{Path}
-use Rattle.nl_types.specs.Trees.{Tree}
+use Rattle.nl_types.specs.Plain.Paths.{Path}
+use Rattle.nl_types.specs.Plain.Trees.{Tree}
 use Rattle.nl_folders.specs.declared.folder.Pending.{Pending}
 use Rattle.nl_folders.specs.Walks.{IsWalk}
 use Rattle.nl_folders.proofs.Walks.{begun, some_left, top_refused, top_stands, visited}

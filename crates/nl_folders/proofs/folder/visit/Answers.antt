@@ -1,7 +1,7 @@
 use Rattle.std.proofs.Common.{ap, subst, ◌∙◌}
 use Rattle.std.proofs.lemmas.Result.{err_from_is_err_and}
-use Rattle.nl_types.specs.Calls.{file_at}
-use Rattle.nl_types.specs.Paths.{Path}
+use Rattle.nl_types.specs.Plain.Calls.{file_at}
+use Rattle.nl_types.specs.Plain.Paths.{Path}
 use Rattle.nl_folders.specs.Refusals.{RefusesPath}
 use Rattle.nl_folders.proofs.Walks.{directory_answers, file_answers}
 use Rattle.nl_folders.proofs.folder.visit.Goals as goal

@@ -1,5 +1,5 @@
 use Rattle.std.proofs.Common.{◌+◌, ◌-◌, drop, ap, sym, ◌∙◌, arith}
-use Rattle.nl_types.specs.Trees.{lookup}
+use Rattle.nl_types.specs.Plain.Trees.{lookup}
 use Rattle.nl_folders.proofs.SortedTrees.{found_behind, less_is, place_is}
 use Rattle.nl_folders.proofs.looking.sunk.Goals as goal
 

@@ -1,7 +1,7 @@
 use Rattle.std.proofs.Common.{◌≡◌, ◌<◌, List, Bool, false, length, get_or, inr, ap, sym, subst, ◌∙◌, arith}
 use Rattle.std.proofs.lemmas.List.{same_from_push}
 use Rattle.nl_types.specs.Facts.TreeLaws.{same_path-equal}
-use Rattle.nl_types.specs.Trees.{Tree}
+use Rattle.nl_types.specs.Plain.Trees.{Tree}
 use Rattle.nl_folders.proofs.SortedTrees.{path_read}
 use Rattle.nl_folders.specs.Private.Sides.{path_at}
 use Rattle.nl_folders.proofs.moves.has_directory_above.Goals as goal

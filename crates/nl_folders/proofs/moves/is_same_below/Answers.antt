@@ -1,5 +1,5 @@
 use Rattle.std.proofs.Common.{◌≡◌, true, drop, ap, sym, ◌∙◌}
-use Rattle.nl_types.specs.Paths.{Path, same_path}
+use Rattle.nl_types.specs.Plain.Paths.{Path, same_path}
 use Rattle.nl_folders.proofs.Sameness.{entry_by}
 use Rattle.nl_folders.specs.Private.Moved.{cut}
 use Rattle.nl_folders.proofs.moves.is_same_below.Goals as goal

@@ -1,6 +1,6 @@
 use Rattle.std.proofs.Common.{◌≡◌, ◌+◌, ◌-◌, ℕ, is_some, length, map, take, drop, ap, sym, subst, ◌∙◌, arith, option_copied, refl}
-use Rattle.nl_types.specs.Paths.{Path}
-use Rattle.nl_types.specs.Trees.{lookup}
+use Rattle.nl_types.specs.Plain.Paths.{Path}
+use Rattle.nl_types.specs.Plain.Trees.{lookup}
 use Rattle.nl_folders.proofs.EntryParts.{mapped_some, parts_alike}
 use Rattle.nl_folders.proofs.PlanSteps.{none_left}
 use Rattle.nl_folders.proofs.SortedTrees.{found_at_place, path_read}

@@ -1,5 +1,5 @@
 use Rattle.std.proofs.Common.{◌≡◌, ◌<◌, ℕ, length, ap, sym, ◌∙◌, arith}
-use Rattle.nl_types.specs.Paths.{Path, is_within}
+use Rattle.nl_types.specs.Plain.Paths.{Path, is_within}
 use Rattle.nl_folders.proofs.EntryParts.{part_ends}
 use Rattle.nl_folders.proofs.SortedTrees.{path_read}
 use Rattle.nl_folders.proofs.StepsDone.{within_itself}

@@ -1,5 +1,5 @@
 use Rattle.std.proofs.Common.{◌≡◌, ℕ, ◌<◌, ◌≤◌, true}
-use Rattle.nl_types.specs.Paths.{is_within}
+use Rattle.nl_types.specs.Plain.Paths.{is_within}
 use Rattle.nl_folders.specs.Private.Sides.{path_at}
 use Rattle.nl_folders.proofs.moves.part_end.Given as goal
 

@@ -1,5 +1,5 @@
 use Rattle.std.proofs.Common.{option_copied, refl, sym, subst}
-use Rattle.nl_types.specs.Paths.{Path}
+use Rattle.nl_types.specs.Plain.Paths.{Path}
 use Rattle.nl_folders.proofs.Handing.{addition_handed}
 use Rattle.nl_folders.proofs.ReadEntries.{entry_read, found_there}
 use Rattle.nl_folders.specs.Private.Rewriting.{PutsNode}

@@ -1,5 +1,5 @@
 use Rattle.std.proofs.Common.{MatchOption, Option, IfOk, length, subst, sym, arith}
-use Rattle.nl_types.specs.Trees.{Tree}
+use Rattle.nl_types.specs.Plain.Trees.{Tree}
 use Rattle.nl_folders.proofs.Handing.{GivesAll, gives_behind}
 use Rattle.nl_folders.specs.declared.plans.Handed.{Handed}
 use Rattle.nl_folders.specs.declared.plans.Stage.{Stage}

@@ -1,6 +1,6 @@
 use Rattle.std.proofs.Common.{◌≡◌, ◌++◌, ◌∷◌, [], List, ap, refl, ◌∙◌}
 use Rattle.nl_types.specs.declared.event.Change.{Change}
-use Rattle.nl_types.specs.Paths.{Path}
+use Rattle.nl_types.specs.Plain.Paths.{Path}
 use Rattle.nl_folders.proofs.Handing.{removal_handed}
 use Rattle.nl_folders.proofs.ReadEntries.{entry_read}
 use Rattle.nl_folders.specs.Private.Stages.{removal_of}

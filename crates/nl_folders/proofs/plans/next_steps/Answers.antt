@@ -1,6 +1,6 @@
 use Rattle.std.proofs.Common.{◌<◌, length, ap, sym, ◌∙◌, arith}
 use Rattle.std.proofs.lemmas.Bool.{eqb-false}
-use Rattle.nl_types.specs.Trees.{Tree}
+use Rattle.nl_types.specs.Plain.Trees.{Tree}
 use Rattle.nl_folders.proofs.Handing.{steps_handed}
 use Rattle.nl_folders.specs.declared.plans.Stage.TheVariants.{Clearing}
 use Rattle.nl_folders.proofs.plans.next_steps.Goals as goal

@@ -1,7 +1,7 @@
 use Rattle.std.proofs.Common.{◌∙◌, ◌<◌, length, subst, option_copied}
 use Rattle.nl_folders.proofs.Handing.{alike_passed}
 use Rattle.nl_folders.proofs.ReadEntries.{entry_read, found_there, lacks_by_read}
-use Rattle.nl_types.specs.Trees.{Tree, lookup}
+use Rattle.nl_types.specs.Plain.Trees.{Tree, lookup}
 use Rattle.nl_folders.proofs.plans.to_make_from.Goals as goal
 
 pub loop-index-preserved : goal.loop-index-preserved

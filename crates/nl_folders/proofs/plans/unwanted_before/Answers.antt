@@ -1,7 +1,7 @@
 use Rattle.std.proofs.Common.{◌∙◌, ◌-◌, arith, option_copied}
 use Rattle.nl_folders.proofs.Handing.{kept_passed}
 use Rattle.nl_folders.proofs.ReadEntries.{entry_read, found_there, goes_by_read}
-use Rattle.nl_types.specs.Trees.{lookup}
+use Rattle.nl_types.specs.Plain.Trees.{lookup}
 use Rattle.nl_folders.proofs.plans.unwanted_before.Goals as goal
 
 pub loop-left-preserved : goal.loop-left-preserved

@@ -1,5 +1,5 @@
 use Rattle.std.proofs.Common.{◌<◌, List, length, get_or, sym, subst}
-use Rattle.nl_types.specs.Trees.{Tree}
+use Rattle.nl_types.specs.Plain.Trees.{Tree}
 use Rattle.nl_folders.proofs.Choosing.{placed_at}
 use Rattle.nl_folders.specs.declared.sides.Step.{Step}
 use Rattle.nl_folders.specs.declared.sides.Step.TheVariants.{Make}

@@ -1,5 +1,5 @@
 use Rattle.std.proofs.Common.{◌≡◌, drop}
-use Rattle.nl_types.specs.Trees.{lookup}
+use Rattle.nl_types.specs.Plain.Trees.{lookup}
 use Rattle.nl_folders.proofs.trees.found_at.Given as goal
 
 abbrev pub invariant-loop-entry : goal.invariant-loop-entry

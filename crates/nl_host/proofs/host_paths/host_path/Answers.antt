@@ -1,6 +1,6 @@
 use Rattle.std.proofs.Common.{◌≡◌, ◌∙◌, ◌++◌, [], ◌∷◌, List, ℕ, ap, arith, sym}
 use Rattle.std.specs.Prelude.{string_bytes}
-use Rattle.nl_types.specs.Characters.{slash}
+use Rattle.nl_types.specs.Plain.Characters.{slash}
 use Rattle.nl_host.specs.HostPaths.{is_host_name}
 use Rattle.nl_host.proofs.Paths.{names_more, path_more}
 use Rattle.nl_host.proofs.host_paths.host_path.Goals as goal

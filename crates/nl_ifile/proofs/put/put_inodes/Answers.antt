@@ -1,6 +1,6 @@
 use Rattle.std.proofs.Common.{ℕ, List, refl, sym, subst}
 use Rattle.std.proofs.lemmas.Result.{IfOk-from_err, IfOk-weaker, err_from_is_err_and}
-use Rattle.nl_types.specs.Roots.{Pages, page_at, pages_of}
+use Rattle.nl_types.specs.Blocks.Roots.{Pages, page_at, pages_of}
 use Rattle.nl_layout.specs.Root.{root_of}
 use Rattle.nl_vstore.specs.Stores.{content_in}
 use Rattle.nl_blocktree.specs.declared.change.BlockChange.{BlockChange}

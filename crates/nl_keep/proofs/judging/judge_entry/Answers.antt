@@ -1,5 +1,5 @@
 use Rattle.std.proofs.Common.{ap, sym, ◌∙◌}
-use Rattle.nl_types.specs.Limits.{path_length_limit}
+use Rattle.nl_types.specs.Plain.Limits.{path_length_limit}
 use Rattle.nl_keep.specs.Private.Judged.{is_spelled}
 use Rattle.nl_keep.proofs.StoreRefusals.{too_long}
 use Rattle.nl_keep.proofs.judging.judge_entry.Goals as goal

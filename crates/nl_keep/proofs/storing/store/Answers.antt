@@ -1,6 +1,6 @@
 use Rattle.std.proofs.Common.{◌∙◌, subst, sym}
 use Rattle.std.proofs.lemmas.Result.{err_from_is_err_and}
-use Rattle.nl_types.specs.Trees.{Tree}
+use Rattle.nl_types.specs.Plain.Trees.{Tree}
 use Rattle.nl_keep.specs.Made.{AreMadeBy}
 use Rattle.nl_keep.proofs.Calls.{stored}
 use Rattle.nl_keep.proofs.StoreRefusals.{current_refused}

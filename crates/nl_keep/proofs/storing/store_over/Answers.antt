@@ -1,5 +1,5 @@
 use Rattle.std.proofs.Common.{subst}
-use Rattle.nl_types.specs.Trees.{Tree}
+use Rattle.nl_types.specs.Plain.Trees.{Tree}
 use Rattle.nl_keep.specs.Private.Costs.{IsMade}
 use Rattle.nl_keep.proofs.Calls.{are_made_by, stored_over}
 use Rattle.nl_keep.proofs.storing.store_over.Goals as goal

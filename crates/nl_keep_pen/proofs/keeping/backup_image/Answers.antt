@@ -1,5 +1,5 @@
 use Rattle.std.proofs.Common.{subst, sym, ◌∙◌}
-use Rattle.nl_types.specs.Trees.{Tree}
+use Rattle.nl_types.specs.Plain.Trees.{Tree}
 use Rattle.nl_keep.specs.Made.{AreMadeBy}
 use Rattle.nl_keep_pen.proofs.Images.{backup_closes, has_current, prepared, stores_in_image}
 use Rattle.nl_keep_pen.proofs.keeping.backup_image.Goals as goal

@@ -1,5 +1,5 @@
 use Rattle.std.proofs.Common.{subst, sym}
-use Rattle.nl_types.specs.Trees.{Tree}
+use Rattle.nl_types.specs.Plain.Trees.{Tree}
 use Rattle.nl_manifests.specs.HostTrees.{Shows}
 use Rattle.nl_keep_pen.proofs.laws.folders_come_back.Goals as goal
 

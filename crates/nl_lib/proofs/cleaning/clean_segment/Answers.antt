@@ -1,5 +1,5 @@
 use Rattle.std.proofs.Common.{◌≡◌, false, suc, sym, subst}
-use Rattle.nl_types.specs.Worlds.{Reply}
+use Rattle.nl_types.specs.Plain.Worlds.{Reply}
 use Rattle.nl_commit.specs.Layout.{Does, unshared}
 use Rattle.nl_lib.specs.CleanedSegments.{is_moved}
 use Rattle.nl_lib.proofs.MovedAway.{fewer}

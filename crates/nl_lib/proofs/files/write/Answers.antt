@@ -2,9 +2,9 @@ use Rattle.std.proofs.Common.{List, ℕ, subst}
 use Rattle.nl_types.specs.declared.event.Change.TheVariants as change
 use Rattle.nl_types.specs.declared.event.Event.TheVariants as event
 use Rattle.nl_types.specs.declared.reply.Answer.TheVariants as answer
-use Rattle.nl_types.specs.Worlds.{Reply}
+use Rattle.nl_types.specs.Plain.Worlds.{Reply}
 use Rattle.nl_commit.specs.Layout.{Does, unshared}
-use Rattle.nl_lib.specs.Calls.{reply_with}
+use Rattle.nl_calls.specs.Replies.{reply_with}
 use Rattle.nl_lib.proofs.Answered.{change-lacking, has-answered, write-reply}
 use Rattle.nl_lib.proofs.files.write.Goals as goal
 

@@ -1,5 +1,5 @@
 use Rattle.std.proofs.Common.{◌≡◌, IfOk, Option, ap, subst, sym, ◌∙◌}
-use Rattle.nl_types.specs.Paths.{Name, Path}
+use Rattle.nl_types.specs.Plain.Paths.{Name, Path}
 use Rattle.nl_manifests.specs.Sealed.{is_placed, stands_below}
 use Rattle.nl_manifests.proofs.EntryParts.{parted_last}
 use Rattle.nl_manifests.proofs.judging.is_placed.Goals as goal

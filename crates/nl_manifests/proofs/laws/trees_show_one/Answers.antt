@@ -2,7 +2,7 @@ use Rattle.std.proofs.Common.{sym, ◌∙◌}
 use Rattle.std.specs.FinMap.Entries.{same_entries}
 use Rattle.nl_types.specs.Facts.Booleans.{holds}
 use Rattle.nl_types.specs.Facts.TreeLaws.{path_total, paths_equal}
-use Rattle.nl_types.specs.Paths.{path_cmp}
+use Rattle.nl_types.specs.Plain.Paths.{path_cmp}
 use Rattle.nl_manifests.proofs.laws.trees_show_one.Goals as goal
 
 pub returns : goal.returns

@@ -1,6 +1,6 @@
 use Rattle.std.proofs.Common.{◌≡◌, drop}
 use Rattle.std.specs.FinMap.{find}
-use Rattle.nl_types.specs.Paths.{path_cmp}
+use Rattle.nl_types.specs.Plain.Paths.{path_cmp}
 use Rattle.nl_manifests.proofs.looking.found_in.Given as goal
 
 abbrev pub invariant-loop-entry : goal.invariant-loop-entry

@@ -1,6 +1,6 @@
 use Rattle.std.proofs.Common.{◌≡◌, ◌∙◌, [], ap}
 use Rattle.std.specs.FinMap.{find}
-use Rattle.nl_types.specs.Paths.{path_cmp}
+use Rattle.nl_types.specs.Plain.Paths.{path_cmp}
 use Rattle.nl_manifests.specs.Private.Opening.{manifests, parts, refused_lines}
 use Rattle.nl_manifests.specs.Private.Places.{puts}
 use Rattle.nl_manifests.proofs.OpenedTrees.{opened_is}

@@ -1,6 +1,6 @@
 use Rattle.std.proofs.Common.{◌+◌, [], drop, refl}
 use Rattle.nl_types.specs.declared.reply.Node.{Node}
-use Rattle.nl_types.specs.Paths.{Path}
+use Rattle.nl_types.specs.Plain.Paths.{Path}
 use Rattle.nl_manifests.specs.Private.Opening.{node_part, parts}
 use Rattle.nl_manifests.proofs.Putting.{Putting-done, Putting-more, all_passed, flat_map-drop}
 use Rattle.nl_manifests.proofs.opening.put_nodes.Goals as goal

@@ -35,7 +35,7 @@ returns-in-None-clause-warmed g c = λ held h.
     let cache = c.args.cache.now in
     let stored = held_block (held c.args.file.now.inode) c.args.index in
     let none = sym c.promote.ensures.value ∙ c.if-promote.false in
-    let is = sym (ap option_copied c.in-None.is) ∙ (rw c.get.ensures at (c.block.ensures held h)) in
+    let is = sym (ap option_copied c.in-None.is) ∙ c.block.ensures held h in
     subst (λ (k : CacheKey). (c.promote.new.self ≡ warmed_one k stored cache) × (0 ≡ put_by k stored cache))
     c.key-key.ensures
     (left c.key-key.result cache c.promote.new.self none c.promote.ensures.entries stored is)
@@ -50,7 +50,7 @@ returns-in_ok-put_page-in-Some-clause-warmed g c = λ held h.
     let cache = c.args.cache.now in
     let stored = held_block (held c.args.file.now.inode) c.args.index in
     let none = sym c.promote.ensures.value ∙ c.if-promote.false in
-    let is = sym (ap option_copied c.in-Some.is) ∙ (rw c.get.ensures at (c.block.ensures held h)) in
+    let is = sym (ap option_copied c.in-Some.is) ∙ c.block.ensures held h in
     subst (λ (k : CacheKey). (c.put_page.new.cache ≡ warmed_one k stored cache) × (1 ≡ put_by k stored cache))
     c.key-key.ensures
     (put c.key-key.result cache c.promote.new.self none c.promote.ensures.entries stored c.in-Some.page.now
@@ -63,6 +63,6 @@ returns-in_ok-put_page-in-Some-clause-stored g c =
     not_there c.key-key.result c.args.cache.now c.promote.new.self none c.promote.ensures.entries in
     put_stored (g.T.TreeRead.holds c.args.tree.now) c.args.file.now.checkpoint c.args.file.now.inode
     c.args.index c.in-Some.page.now
-    (λ held h. sym (ap option_copied c.in-Some.is) ∙ (rw c.get.ensures at (c.block.ensures held h)))
+    (λ held h. sym (ap option_copied c.in-Some.is) ∙ c.block.ensures held h)
     c.key-key.result c.args.cache.now c.promote.new.self c.put_page.new.cache c.key-key.ensures same
     c.in_ok-put_page-in-Some.ensures.put

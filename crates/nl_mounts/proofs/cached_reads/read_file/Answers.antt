@@ -6,7 +6,7 @@ use Rattle.nl_mounts.proofs.cached_reads.read_file.Goals as goal
 
 pub returns-clause-reads : goal.returns-clause-reads
 returns-clause-reads g c = λ held h cached.
-    let size = rw c.get.ensures at (c.size.ensures held h) in
+    let size = c.size.ensures held h in
     let long : length c.read.new.into ≡ c.min-count.result =
     omega (arith, length-take c.min-count.result c.args.into.now) in
     rw (take_at c.read.new.into _ c.min-count.result long)

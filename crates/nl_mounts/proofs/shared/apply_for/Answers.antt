@@ -14,7 +14,7 @@ see-requires g c =
 
 pub returns-clause-tells : goal.returns-clause-tells
 returns-clause-tells g c =
-    Came c.if-not-is_known.ensures c.apply-reply.ensures c.is_settled.ensures
+    Came c.if-not-is_known.ensures c.apply-reply.ensures c.has_published_all.ensures
     (ap (λ (p : PortView). p.known) c.see.ensures ∙ c.told.ensures)
 
 pub returns-clause-later : goal.returns-clause-later

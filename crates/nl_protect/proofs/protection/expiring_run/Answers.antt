@@ -1,6 +1,6 @@
 use Rattle.std.proofs.Common.{◌∙◌, ◌-◌, ℕ, ap, subst, sym}
-use Rattle.nl_types.specs.NeedLaws.{AreGone}
-use Rattle.nl_types.specs.Protection as protection
+use Rattle.nl_types.specs.Blocks.NeedLaws.{AreGone}
+use Rattle.nl_types.specs.Plain.Protection as protection
 use Rattle.nl_cpfile.specs.declared.checkpoint.Checkpoint.{Checkpoint}
 use Rattle.nl_cpfile.specs.Searching.{IsLeastAbove}
 use Rattle.nl_cpfile.specs.Tables as tables

@@ -1,6 +1,6 @@
 use Rattle.std.proofs.Common.{◌≡◌, ◌≤◌, ◌∙◌, List, ℕ, unwrap_or, ap, subst, sym}
 use Rattle.std.specs.List.{AllByRecursion}
-use Rattle.nl_types.specs.Protection as protection
+use Rattle.nl_types.specs.Plain.Protection as protection
 use Rattle.nl_cpfile.specs.declared.checkpoint.Checkpoint.{Checkpoint}
 use Rattle.nl_cpfile.specs.Tables.{rows}
 use Rattle.nl_protect.specs.Keeping.{first_staying}

@@ -1,5 +1,5 @@
 use Rattle.std.proofs.Common.{◌∙◌, ap, not, sym}
-use Rattle.nl_types.specs.Protection.{staying_numbers}
+use Rattle.nl_types.specs.Plain.Protection.{staying_numbers}
 use Rattle.nl_cpfile.specs.Tables.{rows}
 use Rattle.nl_protect.proofs.Staying.{ended-unneeded}
 use Rattle.nl_protect.proofs.protection.needed_from.Goals as goal

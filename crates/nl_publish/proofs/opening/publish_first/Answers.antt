@@ -1,5 +1,5 @@
 use Rattle.std.proofs.Common.{◌≡◌, ◌++◌, ◌∷◌, [], List, ap, sym, ◌∙◌, subst}
-use Rattle.nl_commit.specs.Commits.{image_of}
+use Rattle.nl_commit.specs.Commits.{shown_after}
 use Rattle.nl_commit.specs.Shown.{MountsRise}
 use Rattle.nl_commit.specs.declared.commit.Commit.{Commit}
 use Rattle.nl_publish.specs.Histories.{IsBegun}
@@ -14,4 +14,4 @@ publish-requires-clause-mounts g c =
     let commit : Commit = c.args.commit.now in
     let commits : c.add.new.self.commits ≡ commit ∷ [] =
     c.if-not-add.ensures.added ∙ ap (λ (log : List Commit). log ++ commit ∷ []) c.requires.none in
-    subst (λ (log : List Commit). MountsRise (image_of log)) (sym commits) c.requires.mounts
+    subst (λ (log : List Commit). MountsRise (shown_after log)) (sym commits) c.requires.mounts

@@ -1,4 +1,4 @@
-use Rattle.nl_vstore.specs.Located.{by_period}
+use Rattle.nl_types.specs.Blocks.Entries.{is_needed}
 use Rattle.nl_reclaim.proofs.Calls.{front-inside}
 use Rattle.nl_reclaim.proofs.moving.list_first.Goals as goal
 
@@ -8,6 +8,6 @@ returns-clause-movable g c = record {
   closed = c.requires.closed;
   inside =
       front-inside (g.V.Vstore.store c.args.store.now)
-      (by_period (g.K.Keeping.test c.args.keeping.now)) c.args.segment c.args.limit _
+      (is_needed (g.K.Keeping.kept c.args.keeping.now)) c.args.segment c.args.limit _
       c.in_ok-needed.ensures.first;
 }

@@ -1,8 +1,9 @@
 use Rattle.std.proofs.Common.{◌*◌}
-use Rattle.nl_vstore.specs.Located.{AreCounted, by_period, needed_at}
+use Rattle.nl_types.specs.Blocks.Entries.{is_needed}
+use Rattle.nl_vstore.specs.Located.{AreCounted, needed_at}
 use Rattle.nl_reclaim.proofs.needed.count_needed.Given as goal
 
 abbrev pub invariant-loop-position : goal.invariant-loop-position
 invariant-loop-position g l =
-    AreCounted (needed_at (g.V.Vstore.store l.store) (by_period (g.K.Keeping.test l.keeping)))
+    AreCounted (needed_at (g.V.Vstore.store l.store) (is_needed (g.K.Keeping.kept l.keeping)))
     (l.segment * (g.V.Vstore.store l.store).segments.blocks) l.position l.count

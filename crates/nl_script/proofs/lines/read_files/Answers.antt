@@ -1,6 +1,6 @@
 use Rattle.std.proofs.Common.{sym, subst, length, take, drop, List}
-use Rattle.nl_types.specs.Runs.{Run}
-use Rattle.nl_types.specs.Worlds.{Reply}
+use Rattle.nl_types.specs.Plain.Runs.{Run}
+use Rattle.nl_types.specs.Plain.Worlds.{Reply}
 use Rattle.nl_types.specs.declared.event.Event.{Event}
 use Rattle.nl_script.proofs.FilesRead.{run_long, runs_on}
 use Rattle.nl_script.proofs.lines.read_files.Goals as goal

@@ -1,5 +1,5 @@
 use Rattle.std.proofs.Common.{◌∙◌, ap, inl, subst, List}
-use Rattle.nl_types.specs.Runs.{Run}
+use Rattle.nl_types.specs.Plain.Runs.{Run}
 use Rattle.nl_types.specs.declared.event.Event.{Event}
 use Rattle.nl_script.specs.Lines.{files_end}
 use Rattle.nl_script.proofs.lines.show_files.Goals as goal

@@ -1,7 +1,7 @@
 use Rattle.std.proofs.Common.{◌≡◌, ◌≤◌, ◌+◌, ◌++◌, List, take, length, vec_len}
 use Rattle.std.specs.Prelude.{vec_capacity}
-use Rattle.nl_types.specs.Runs.{Run}
-use Rattle.nl_types.specs.Worlds.{Reply}
+use Rattle.nl_types.specs.Plain.Runs.{Run}
+use Rattle.nl_types.specs.Plain.Worlds.{Reply}
 use Rattle.nl_script.proofs.running.run_rest.Given as goal
 
 abbrev pub invariant-loop-event : goal.invariant-loop-event

@@ -1,5 +1,5 @@
 use Rattle.std.proofs.Common.{◌∙◌, ap, sym, Some, arith}
-use Rattle.nl_types.specs.Segments.{total_blocks}
+use Rattle.nl_types.specs.Blocks.Segments.{total_blocks}
 use Rattle.nl_space.specs.Facts.ImageBlocks.{page_part}
 use Rattle.nl_segwriter.proofs.images.read_page.Goals as goal
 

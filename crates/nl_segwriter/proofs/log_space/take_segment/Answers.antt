@@ -1,7 +1,7 @@
 use Rattle.std.proofs.Common.{◌≡◌, ℕ, ◌∙◌, Some, ap, length, subst, rules, Option}
 use Rattle.std.proofs.lemmas.List.{length-set}
 use Rattle.std.specs.Option.{IfSome}
-use Rattle.nl_types.specs.Segments.{Segments, lowest_clean, none_active, with_active}
+use Rattle.nl_types.specs.Blocks.Segments.{Segments, lowest_clean, none_active, with_active}
 use Rattle.nl_types.specs.Facts.SegmentChanges.{length-none_active}
 use Rattle.nl_segwriter.proofs.TakenSegment.{active_again, error_again, active_or_lowest, lowest_has}
 use Rattle.nl_segwriter.proofs.log_space.take_segment.Goals as goal

@@ -2,7 +2,7 @@ use Rattle.std.proofs.Common.{◌≡◌, ◌≤◌, ◌+◌, ◌<◌, ◌∷◌,
 use Rattle.std.proofs.lemmas.List.{drop_all}
 use Rattle.std.specs.List.{AllByRecursion}
 use Rattle.nl_types.specs.declared.segment.Log.{Log}
-use Rattle.nl_types.specs.Placing.{addresses, first_block, blocks_from}
+use Rattle.nl_types.specs.Blocks.Placing.{addresses, first_block, blocks_from}
 use Rattle.nl_segwriter.proofs.numbers.numbers_of.Goals as goal
 
 -- what is left begins with the log at its index

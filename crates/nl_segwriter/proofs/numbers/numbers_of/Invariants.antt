@@ -1,6 +1,6 @@
 use Rattle.std.proofs.Common.{◌≡◌, ◌+◌, ◌≤◌, ◌++◌, drop}
 use Rattle.std.specs.List.{AllByRecursion}
-use Rattle.nl_types.specs.Placing.{addresses, first_block}
+use Rattle.nl_types.specs.Blocks.Placing.{addresses, first_block}
 use Rattle.nl_segwriter.proofs.numbers.numbers_of.Given as goal
 
 abbrev pub invariant-loop-log : goal.invariant-loop-log

@@ -1,5 +1,5 @@
 use Rattle.std.proofs.Common.{◌≡◌, ◌+◌, ◌*◌, ◌∷◌, ◌++◌, [], ap, sym, ◌∙◌, append_assoc, arith, ℕ, List}
-use Rattle.nl_types.specs.Placing.{blocks_from, first_block}
+use Rattle.nl_types.specs.Blocks.Placing.{blocks_from, first_block}
 use Rattle.nl_segwriter.proofs.Rows.{row_of-more}
 use Rattle.nl_segwriter.proofs.numbers.push_row.Goals as goal
 

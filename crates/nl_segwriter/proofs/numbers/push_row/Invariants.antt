@@ -1,5 +1,5 @@
 use Rattle.std.proofs.Common.{◌≡◌, ◌+◌, ◌++◌}
-use Rattle.nl_types.specs.Placing.{blocks_from, first_block}
+use Rattle.nl_types.specs.Blocks.Placing.{blocks_from, first_block}
 use Rattle.nl_segwriter.proofs.numbers.push_row.Given as goal
 
 abbrev pub invariant-loop-k : goal.invariant-loop-k

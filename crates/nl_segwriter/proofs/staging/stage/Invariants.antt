@@ -1,5 +1,5 @@
 use Rattle.std.proofs.Common.{◌≡◌, ◌++◌, List, length, drop}
-use Rattle.nl_types.specs.Placing.{payload_count}
+use Rattle.nl_types.specs.Blocks.Placing.{payload_count}
 use Rattle.nl_segwriter.specs.declared.staging.Staged.{Staged}
 use Rattle.nl_segwriter.specs.Private.Staging.{AreStaged, AreSized}
 use Rattle.nl_segwriter.proofs.staging.stage.Given as goal

@@ -1,6 +1,6 @@
 use Rattle.std.proofs.Common.{◌≡◌, ◌∙◌, ap, length, subst, sym}
 use Rattle.std.proofs.Math.ListN.{replicate}
-use Rattle.nl_types.specs.Segments.{IsUsed, Segments}
+use Rattle.nl_types.specs.Blocks.Segments.{IsUsed, Segments}
 use Rattle.nl_space.specs.Images.{zero_page}
 use Rattle.nl_space.proofs.images.dump_block.Goals as goal
 

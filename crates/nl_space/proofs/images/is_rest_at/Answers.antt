@@ -1,5 +1,5 @@
 use Rattle.std.proofs.Common.{subst, sym, arith}
-use Rattle.nl_types.specs.Segments.{IsUsed, total_blocks}
+use Rattle.nl_types.specs.Blocks.Segments.{IsUsed, total_blocks}
 use Rattle.nl_space.specs.Images.{pages_of_bytes}
 use Rattle.nl_space.specs.Facts.ImageBlocks.{page_part, unused_rest}
 use Rattle.nl_space.proofs.images.is_rest_at.Goals as goal

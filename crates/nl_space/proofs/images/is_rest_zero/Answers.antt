@@ -1,6 +1,6 @@
 use Rattle.std.proofs.Common.{◌≡◌, ◌*◌, arith, refl}
 use borrow.Author.Count.{below_more}
-use Rattle.nl_types.specs.Segments.{total_blocks}
+use Rattle.nl_types.specs.Blocks.Segments.{total_blocks}
 use Rattle.nl_space.specs.Images.{IsRestAt, pages_of_bytes}
 use Rattle.nl_space.specs.Facts.ImageBlocks.{rest_zero}
 use Rattle.nl_space.proofs.images.is_rest_zero.Goals as goal

@@ -1,5 +1,5 @@
 use Rattle.std.proofs.Common.{◌≡◌, ◌≤◌, ◌+◌, drop, length}
-use Rattle.nl_types.specs.Segments.{clean_from}
+use Rattle.nl_types.specs.Blocks.Segments.{clean_from}
 use Rattle.nl_sufile.proofs.clean.count_clean.Given as goal
 
 abbrev pub invariant-loop-info : goal.invariant-loop-info

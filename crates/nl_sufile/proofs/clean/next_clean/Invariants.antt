@@ -1,5 +1,5 @@
 use Rattle.std.proofs.Common.{◌≡◌, drop}
-use Rattle.nl_types.specs.Segments.{clean_from}
+use Rattle.nl_types.specs.Blocks.Segments.{clean_from}
 use Rattle.nl_sufile.proofs.clean.next_clean.Given as goal
 
 abbrev pub invariant-loop-number : goal.invariant-loop-number

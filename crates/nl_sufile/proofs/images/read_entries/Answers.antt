@@ -1,7 +1,7 @@
 use Rattle.std.proofs.Common.{◌*◌, ◌∙◌, sym, arith, length-append}
 use Rattle.std.proofs.lemmas.List.{take_all}
 use Rattle.std.proofs.lemmas.List.Elements.{All-push}
-use Rattle.nl_types.specs.Segments.{info_of}
+use Rattle.nl_types.specs.Blocks.Segments.{info_of}
 use Rattle.nl_types.specs.Facts.EqualPieces.{take_piece}
 use Rattle.nl_layout.specs.Segment.{HasSpelling, segment_bytes}
 use Rattle.nl_sufile.specs.Images.{IsSoundSegment}

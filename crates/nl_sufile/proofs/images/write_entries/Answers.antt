@@ -1,6 +1,6 @@
 use Rattle.std.proofs.Common.{◌+◌, ◌-◌, ◌*◌, arith}
 use Rattle.std.proofs.lemmas.List.Elements.{All-more}
-use Rattle.nl_types.specs.Segments.{clean_info}
+use Rattle.nl_types.specs.Blocks.Segments.{clean_info}
 use Rattle.nl_types.specs.Facts.EqualPieces.{put_piece}
 use Rattle.nl_layout.specs.Segment.{HasSpelling, segment_bytes}
 use Rattle.nl_sufile.specs.Facts.ImageEntries.{entry_width}

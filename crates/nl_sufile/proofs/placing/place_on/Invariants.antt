@@ -1,7 +1,7 @@
 use Rattle.std.proofs.Common.{◌≡◌, ◌≤◌, ◌++◌, List}
 use Rattle.std.specs.Option.{IfSome}
 use Rattle.nl_types.specs.declared.segment.Log.{Log}
-use Rattle.nl_types.specs.Placing.{GoOn}
+use Rattle.nl_types.specs.Blocks.Placing.{GoOn}
 use Rattle.nl_sufile.proofs.placing.place_on.Given as goal
 
 -- what the logs so far and those that go on from here are is what goes on from the start

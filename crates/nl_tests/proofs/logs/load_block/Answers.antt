@@ -1,6 +1,6 @@
 use Rattle.std.proofs.Common.{◌≡◌, ◌+◌, ◌*◌, ◌<◌, ap, ◌∙◌, refl, arith}
 use Rattle.nl_types.specs.declared.segment.SegmentInfo.{SegmentInfo}
-use Rattle.nl_types.specs.Segments.{Segments, info_of}
+use Rattle.nl_types.specs.Blocks.Segments.{Segments, info_of}
 use Rattle.nl_tests.proofs.logs.load_block.Goals as goal
 
 pub load-requires : goal.load-requires

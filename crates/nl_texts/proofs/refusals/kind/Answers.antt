@@ -1,6 +1,6 @@
 use Rattle.std.proofs.Common.{◌∙◌, ◌++◌, ◌∷◌, ap, codes}
 use Rattle.std.specs.Fmt.{decimal}
-use Rattle.nl_types.specs.Refusals.{refusal_number}
+use Rattle.nl_types.specs.Plain.Refusals.{refusal_number}
 use Rattle.nl_texts.specs.Texts.{Text}
 use Rattle.nl_texts.specs.Facts.Appending.{OnOk-same}
 use Rattle.nl_texts.proofs.refusals.kind.Goals as goal

@@ -1,6 +1,6 @@
 use Rattle.std.proofs.Common.{◌≡◌, ◌∙◌, ◌+◌, ◌<◌, ◌++◌, ap, sym, ℕ, Bool, List, None, length, drop, get_or}
 use Rattle.std.proofs.lemmas.List.{at_drop_more}
-use Rattle.nl_types.specs.Segments.{clean_info}
+use Rattle.nl_types.specs.Blocks.Segments.{clean_info}
 use Rattle.nl_texts.specs.declared.segments.SegmentRow.{SegmentRow}
 use Rattle.nl_texts.specs.SegmentLines.{listed_seg_text, seg_texts_from}
 use Rattle.nl_texts.specs.Facts.Appending.{goes_on-more}

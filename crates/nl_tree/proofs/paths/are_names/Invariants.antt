@@ -1,6 +1,6 @@
 use Rattle.std.proofs.Common.{◌≡◌, length}
 use Rattle.std.specs.List.{list_all}
-use Rattle.nl_types.specs.Paths.{is_name}
+use Rattle.nl_types.specs.Plain.Paths.{is_name}
 use Rattle.nl_tree.specs.Private.PathParts.{parts_of}
 use Rattle.nl_tree.proofs.paths.are_names.Given as goal
 

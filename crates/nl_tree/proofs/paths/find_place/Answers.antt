@@ -5,7 +5,7 @@ use Rattle.nl_tree.proofs.FindingPlaces.{directory_walked, parts_walked, place_f
 use Rattle.nl_tree.proofs.paths.find_place.Goals as goal
 
 pub loop-name-init : goal.loop-name-init
-loop-name-init g c = ([], refl, λ held h. refl)
+loop-name-init g c = ([], refl, λ held h. rw c.new-directory.ensures refl)
 
 pub returns-in_err-directory : goal.returns-in_err-directory
 returns-in_err-directory g c = λ held h.

@@ -1,6 +1,6 @@
 use Rattle.std.proofs.Common.{◌≡◌, ◌++◌, length, Ok}
 use Rattle.nl_types.specs.declared.kind.Kind.TheVariants as kind
-use Rattle.nl_types.specs.Paths.{Path}
+use Rattle.nl_types.specs.Plain.Paths.{Path}
 use Rattle.nl_types.specs.Resolving.{resolve}
 use Rattle.nl_tree.specs.Held.{Holding, inodes_of_holding}
 use Rattle.nl_tree.specs.Private.PathParts.{parts_of}

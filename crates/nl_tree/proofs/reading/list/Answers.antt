@@ -14,5 +14,5 @@ pub returns : goal.returns
 returns g c = λ held shown h means.
     list_shown held shown means c.args.path.now c.in_ok-directory.directory c.listed_names.result
     (c.in_ok-directory.ensures held h)
-    (λ records is. c.listed_names.ensures.names held records h (rw c.get.ensures is))
+    (λ records is. c.listed_names.ensures.names held records h is)
     c.listed_names.ensures.refused

@@ -14,4 +14,4 @@ pub returns : goal.returns
 returns g c = λ held shown h means.
     read_shown held shown means c.args.offset c.args.len c.args.path.now c.in_ok-file.file c.file_bytes.result
     (c.in_ok-file.ensures held h)
-    (rw c.get.ensures at (c.file_bytes.ensures.bytes held h)) c.file_bytes.ensures.refused
+    (c.file_bytes.ensures.bytes held h) c.file_bytes.ensures.refused

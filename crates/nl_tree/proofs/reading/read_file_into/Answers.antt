@@ -5,8 +5,8 @@ use Rattle.nl_tree.proofs.reading.read_file_into.Goals as goal
 
 pub returns-clause-reads : goal.returns-clause-reads
 returns-clause-reads g c = λ held h.
-    let size = rw c.get.ensures at (c.size.ensures held h) in
-    let copied = rw c.get-2.ensures at (c.read_bytes.ensures held h) in
+    let size = c.size.ensures held h in
+    let copied = c.read_bytes.ensures held h in
     let long : length c.read_bytes.new.into ≡ c.min-count.result =
     omega (arith, length-take c.min-count.result c.args.into.now) in
     rw (take_at c.read_bytes.new.into _ c.min-count.result long)

@@ -12,10 +12,10 @@ pub returns-in-File : goal.returns-in-File
 returns-in-File g c = λ held shown h means.
     let found = rw c.in-File.is at (c.in_ok-inode.ensures held h) in
     stat_file held shown means c.args.path.now c.in_ok-inode.inode c.size.result found
-    (rw c.get.ensures at (c.size.ensures held h))
+    (c.size.ensures held h)
 
 pub returns-in-Directory : goal.returns-in-Directory
 returns-in-Directory g c = λ held shown h means.
     let found = rw c.in-Directory.is at (c.in_ok-inode.ensures held h) in
     stat_directory held shown means c.args.path.now c.in_ok-inode.inode c.name_count.result found
-    (rw c.get-in-Directory.ensures at (c.name_count.ensures held h))
+    (c.name_count.ensures held h)

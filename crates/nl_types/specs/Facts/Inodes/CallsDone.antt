@@ -13,10 +13,10 @@ use Rattle.nl_types.specs.declared.kind.Kind.{Kind}
 use Rattle.nl_types.specs.declared.kind.Kind.TheVariants as kind
 use Rattle.nl_types.specs.declared.reply.Node.{Node}
 use Rattle.nl_types.specs.declared.reply.Node.TheVariants.{Dir, File}
-use Rattle.nl_types.specs.Limits.{file_limit, path_limit}
-use Rattle.nl_types.specs.Paths.{Name, Path, name_cmp, same_path, is_within}
-use Rattle.nl_types.specs.Trees.{Tree, lookup, insert, remove, move_subtree, node_kind}
-use Rattle.nl_types.specs.Calls.{Changed, and_then, refuse_if, walk, file_at, overwritten, resized, is_root, is_dir, rename}
+use Rattle.nl_types.specs.Plain.Limits.{file_limit, path_limit}
+use Rattle.nl_types.specs.Plain.Paths.{Name, Path, name_cmp, same_path, is_within}
+use Rattle.nl_types.specs.Plain.Trees.{Tree, lookup, insert, remove, move_subtree, node_kind}
+use Rattle.nl_types.specs.Plain.Calls.{Changed, and_then, refuse_if, walk, file_at, overwritten, resized, is_root, is_dir, rename}
 use Rattle.nl_types.specs.Inodes.{Link, InodeContent, Bytes, Records, Inodes, MeansTree, node_of}
 use Rattle.nl_types.specs.InodeChanges.{HasRecords, IsBare, Adds, Refills, Drops, Moves, MovesOnto}
 use Rattle.nl_types.specs.Resolving.{record_in, step_to, resolve_from, resolve, as_dir}

@@ -4,8 +4,8 @@ use Rattle.std.specs.FinMap.Entries.{is_sorted-where_key}
 use Rattle.std.proofs.Common.{sym, ◌∙◌, ap, arith}
 use Rattle.std.proofs.lemmas.List.{reverse-reverse}
 use Rattle.nl_types.specs.declared.reply.Node.TheVariants.{File}
-use Rattle.nl_types.specs.Paths.{Path, path_cmp, same_path, is_within}
-use Rattle.nl_types.specs.Trees.{Tree, lookup, move_subtree, remove}
+use Rattle.nl_types.specs.Plain.Paths.{Path, path_cmp, same_path, is_within}
+use Rattle.nl_types.specs.Plain.Trees.{Tree, lookup, move_subtree, remove}
 use Rattle.nl_types.specs.Inodes.{Bytes, upward}
 use Rattle.nl_types.specs.InodeLaws.{CreatesInsert, RewritesInsert, RemovesRemove, RenamesMove, ReplacesMove}
 use Rattle.nl_types.specs.Facts.Inodes.Recording.{absent_below}

@@ -8,8 +8,8 @@ use Rattle.std.specs.FinMap.Entries.{below_all, same_entries}
 use Rattle.std.proofs.Common.{sym, ◌∙◌, ap}
 use Rattle.std.proofs.lemmas.List.{reverse-append}
 use Rattle.nl_types.specs.declared.reply.Node.{Node}
-use Rattle.nl_types.specs.Paths.{Name, name_cmp, same_name}
-use Rattle.nl_types.specs.Trees.{lookup, children, node_kind}
+use Rattle.nl_types.specs.Plain.Paths.{Name, name_cmp, same_name}
+use Rattle.nl_types.specs.Plain.Trees.{lookup, children, node_kind}
 use Rattle.nl_types.specs.Inodes.{Link, upward}
 use Rattle.nl_types.specs.InodeLaws.{ChildrenAreRecords, with_kind}
 use Rattle.nl_types.specs.Facts.Lookups.{names_equal}

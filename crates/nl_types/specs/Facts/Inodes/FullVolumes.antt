@@ -9,9 +9,9 @@ use Rattle.std.proofs.lemmas.Bool.{eqb-true, eq-eqb, ne_eqb, or_cases}
 use Rattle.std.proofs.lemmas.List.{length-map, reverse-reverse}
 use Rattle.std.proofs.lemmas.Map.Made.{length-le_from_is_member}
 use Rattle.nl_types.specs.declared.reply.Node.{Node}
-use Rattle.nl_types.specs.Paths.{Path, same_path}
-use Rattle.nl_types.specs.Placing.{blocks_from}
-use Rattle.nl_types.specs.Trees.{Tree, lookup}
+use Rattle.nl_types.specs.Plain.Paths.{Path, same_path}
+use Rattle.nl_types.specs.Blocks.Placing.{blocks_from}
+use Rattle.nl_types.specs.Plain.Trees.{Tree, lookup}
 use Rattle.nl_types.specs.Inodes.{Inodes, MeansTree}
 use Rattle.nl_types.specs.InodeLaws.{FullVolumesAreTooBig}
 use Rattle.nl_types.specs.Facts.TreeLaws.{same_path-equal}

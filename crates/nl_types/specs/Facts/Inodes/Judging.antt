@@ -12,11 +12,11 @@ use Rattle.nl_types.specs.declared.reply.Named.{Named}
 use Rattle.nl_types.specs.declared.reply.Node.{Node}
 use Rattle.nl_types.specs.declared.reply.Node.TheVariants.{Dir, File}
 use Rattle.nl_types.specs.declared.reply.Stat.TheVariants as status
-use Rattle.nl_types.specs.Limits.{path_limit}
-use Rattle.nl_types.specs.Paths.{Name, Path, same_path}
-use Rattle.nl_types.specs.Trees as trees
-use Rattle.nl_types.specs.Trees.{Tree, lookup, insert, remove, move_subtree, node_kind}
-use Rattle.nl_types.specs.Calls.{Changed, and_then, refuse_if, ok_unless, stops_walk, stop_from, walk, node_at, file_at, dir_at, create, rmdir, has_names, is_root, is_dir, is_above, may_replace, rename, list, named, stat}
+use Rattle.nl_types.specs.Plain.Limits.{path_limit}
+use Rattle.nl_types.specs.Plain.Paths.{Name, Path, same_path}
+use Rattle.nl_types.specs.Plain.Trees as trees
+use Rattle.nl_types.specs.Plain.Trees.{Tree, lookup, insert, remove, move_subtree, node_kind}
+use Rattle.nl_types.specs.Plain.Calls.{Changed, and_then, refuse_if, ok_unless, stops_walk, stop_from, walk, node_at, file_at, dir_at, create, rmdir, has_names, is_root, is_dir, is_above, may_replace, rename, list, named, stat}
 use Rattle.nl_types.specs.Inodes.{Link, Inodes, MeansTree}
 use Rattle.nl_types.specs.Resolving.{record_in, resolve, as_dir}
 use Rattle.nl_types.specs.Judging.{Listing, IsListing, bytes_in, has_any, is_dir_kind, may_take, judge_create, judge_rmdir, judge_rename, judge_list, shown, stat_in}

@@ -9,8 +9,8 @@ use Rattle.std.proofs.lemmas.Bool.{cases_Bool, eqb-true, eqb-false, eq-eqb, ne_e
 use Rattle.std.proofs.Common.{sym, ◌∙◌, ap, subst, inl, inr, true≢false, T, append-nil}
 use Rattle.nl_types.specs.declared.reply.Node.{Node}
 use Rattle.nl_types.specs.declared.reply.Node.TheVariants.{Dir, File}
-use Rattle.nl_types.specs.Paths.{Name, Path, path_cmp, same_path, same_name, is_within}
-use Rattle.nl_types.specs.Trees.{Tree, lookup, insert, remove, move_subtree, moved_path, in_order}
+use Rattle.nl_types.specs.Plain.Paths.{Name, Path, path_cmp, same_path, same_name, is_within}
+use Rattle.nl_types.specs.Plain.Trees.{Tree, lookup, insert, remove, move_subtree, moved_path, in_order}
 use Rattle.nl_types.specs.Inodes.{Link, InodeContent, Bytes, Records, Inodes, MeansTree, upward, IsRooted, Pairs, record_of}
 use Rattle.nl_types.specs.InodeChanges.{Creates, Rewrites, Removes, Renames, Replaces, HoldsChanged, put_record, move_record}
 use Rattle.nl_types.specs.InodeLaws.{WalksFind, InodesMeanOneTree}

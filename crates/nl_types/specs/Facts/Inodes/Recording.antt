@@ -9,8 +9,8 @@ use Rattle.std.proofs.Common.{sym, ◌∙◌, ap, subst, inl, inr, true≢false}
 use Rattle.std.proofs.lemmas.Bool.{eq-eqb, ne_eqb}
 use Rattle.nl_types.specs.declared.reply.Node.{Node}
 use Rattle.nl_types.specs.declared.reply.Node.TheVariants.{Dir}
-use Rattle.nl_types.specs.Paths.{Name, Path, name_cmp, same_name}
-use Rattle.nl_types.specs.Trees.{node_kind}
+use Rattle.nl_types.specs.Plain.Paths.{Name, Path, name_cmp, same_name}
+use Rattle.nl_types.specs.Plain.Trees.{node_kind}
 use Rattle.nl_types.specs.Inodes.{Link, InodeContent, Bytes, Records, IsRooted}
 use Rattle.nl_types.specs.InodeChanges.{HoldsChanged, put_record}
 use Rattle.nl_types.specs.Facts.Lookups.{names_equal, same_name-itself, same_name-equal}

@@ -4,7 +4,7 @@ use Rattle.std.specs.Option.{is_some}
 use Rattle.std.proofs.Common.{sym, ◌∙◌, ap, subst, inl, inr}
 use Rattle.nl_types.specs.declared.reply.Node.{Node}
 use Rattle.nl_types.specs.declared.reply.Node.TheVariants.{Dir, File}
-use Rattle.nl_types.specs.Paths.{Name, Path}
+use Rattle.nl_types.specs.Plain.Paths.{Name, Path}
 use Rattle.nl_types.specs.Inodes.{Link, InodeContent, Bytes, Records, Inodes, IsRooted, Pairs, record_of}
 use Rattle.nl_types.specs.InodeChanges.{HoldsChanged, put_record}
 use Rattle.nl_types.specs.Facts.Inodes.Ways.{path_cases, name_cases, put_at, put_at-there, put_at-other}

@@ -6,7 +6,7 @@ use Rattle.std.proofs.Common.{sym, ◌∙◌, ap, subst, inl, inr, arith, length
 use Rattle.std.proofs.lemmas.List.{append_cancel_right}
 use Rattle.nl_types.specs.declared.reply.Node.{Node}
 use Rattle.nl_types.specs.declared.reply.Node.TheVariants.{Dir, File}
-use Rattle.nl_types.specs.Paths.{Name, Path}
+use Rattle.nl_types.specs.Plain.Paths.{Name, Path}
 use Rattle.nl_types.specs.Inodes.{Link, InodeContent, Bytes, Records, Inodes, IsRooted, Pairs, record_of}
 use Rattle.nl_types.specs.InodeChanges.{HoldsChanged, put_record, move_record}
 use Rattle.nl_types.specs.Facts.Inodes.Walks.{absent}

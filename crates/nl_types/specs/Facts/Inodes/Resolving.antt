@@ -7,9 +7,9 @@ use Rattle.nl_types.specs.declared.error.VolError.TheVariants.{NotFound}
 use Rattle.nl_types.specs.declared.reply.Node.{Node}
 use Rattle.nl_types.specs.declared.reply.Node.TheVariants.{Dir, File}
 use Rattle.nl_types.specs.declared.kind.Kind.TheVariants as kind
-use Rattle.nl_types.specs.Paths.{Name, Path}
-use Rattle.nl_types.specs.Trees.{Tree, lookup, node_kind}
-use Rattle.nl_types.specs.Calls.{and_then, ok_unless, stops_walk, stop_from, walk, node_at}
+use Rattle.nl_types.specs.Plain.Paths.{Name, Path}
+use Rattle.nl_types.specs.Plain.Trees.{Tree, lookup, node_kind}
+use Rattle.nl_types.specs.Plain.Calls.{and_then, ok_unless, stops_walk, stop_from, walk, node_at}
 use Rattle.nl_types.specs.Inodes.{Link, InodeContent, Bytes, Records, Inodes, MeansTree, upward, record_of, node_of, reached}
 use Rattle.nl_types.specs.InodeChanges.{HasRecords}
 use Rattle.nl_types.specs.Resolving.{record_in, resolve_from, resolve, as_dir, node_in}

@@ -8,9 +8,9 @@ use Rattle.nl_types.specs.declared.error.VolError.{VolError}
 use Rattle.nl_types.specs.declared.error.VolError.TheVariants.{Exists, BadPath}
 use Rattle.nl_types.specs.declared.reply.Node.{Node}
 use Rattle.nl_types.specs.declared.reply.Node.TheVariants.{Dir, File}
-use Rattle.nl_types.specs.Paths.{Name, Path, same_path}
-use Rattle.nl_types.specs.Trees.{root_alone, lookup}
-use Rattle.nl_types.specs.Calls.{refuse_if, is_root}
+use Rattle.nl_types.specs.Plain.Paths.{Name, Path, same_path}
+use Rattle.nl_types.specs.Plain.Trees.{root_alone, lookup}
+use Rattle.nl_types.specs.Plain.Calls.{refuse_if, is_root}
 use Rattle.nl_types.specs.Inodes.{Link, InodeContent, Bytes, Records, upward, record_of}
 use Rattle.nl_types.specs.InodeLaws.{NewInodesMeanTheRoot}
 use Rattle.nl_types.specs.InodeCallLaws.{RootIsThere, RootStays}

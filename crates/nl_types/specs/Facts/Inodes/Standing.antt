@@ -4,8 +4,8 @@ use Rattle.std.specs.Option.{is_some, option_map, option_and_then, option_zip}
 use Rattle.std.proofs.Common.{sym, ◌∙◌, ap}
 use Rattle.nl_types.specs.declared.reply.Node.{Node}
 use Rattle.nl_types.specs.declared.reply.Node.TheVariants.{Dir}
-use Rattle.nl_types.specs.Paths.{Name, Path}
-use Rattle.nl_types.specs.Trees.{node_kind}
+use Rattle.nl_types.specs.Plain.Paths.{Name, Path}
+use Rattle.nl_types.specs.Plain.Trees.{node_kind}
 use Rattle.nl_types.specs.Inodes.{Link, InodeContent, Bytes, Records, Inodes, IsRooted, Pairs, record_of, reached, node_of, inode_named}
 use Rattle.nl_types.specs.InodeChanges.{HasRecords, IsBare}
 use Rattle.nl_types.specs.Facts.Inodes.Walks.{reached-pairs, found-pairs}

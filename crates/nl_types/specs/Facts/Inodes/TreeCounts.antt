@@ -9,8 +9,8 @@ use Rattle.std.specs.FinMap.{find, is_sorted}
 use Rattle.std.specs.FinMap.Entries.{below_all, length-put, length_without}
 use Rattle.std.proofs.Common.{sym, ◌∙◌, ap, T, arith, suc}
 use Rattle.nl_types.specs.declared.reply.Node.{Node}
-use Rattle.nl_types.specs.Paths.{Path, path_cmp, same_path, is_within}
-use Rattle.nl_types.specs.Trees.{Tree, lookup, insert, remove, move_subtree, moved_path, in_order}
+use Rattle.nl_types.specs.Plain.Paths.{Path, path_cmp, same_path, is_within}
+use Rattle.nl_types.specs.Plain.Trees.{Tree, lookup, insert, remove, move_subtree, moved_path, in_order}
 use Rattle.nl_types.specs.Facts.TreeLaws.{path_total}
 use Rattle.nl_types.specs.Facts.Lookups.{same_path-itself, lookup-in_order, moved_entries, found_inside, found_outside, within_is}
 use Rattle.nl_types.specs.Facts.Subtrees.{in_order-sorted}

@@ -5,8 +5,8 @@ use Rattle.std.proofs.Common.{sym, ◌∙◌, ap}
 use Rattle.nl_types.specs.declared.reply.Node.{Node}
 use Rattle.nl_types.specs.declared.reply.Node.TheVariants.{Dir, File}
 use Rattle.nl_types.specs.declared.kind.Kind.{Kind}
-use Rattle.nl_types.specs.Paths.{Name, Path}
-use Rattle.nl_types.specs.Trees.{node_kind}
+use Rattle.nl_types.specs.Plain.Paths.{Name, Path}
+use Rattle.nl_types.specs.Plain.Trees.{node_kind}
 use Rattle.nl_types.specs.Inodes.{InodeContent, IsRooted, Pairs, inode_named, reached, node_of, found_node}
 
 pub absent : {A : Type 0} (o : Option A) → is_some o ≡ false → o ≡ None

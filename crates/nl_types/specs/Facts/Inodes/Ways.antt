@@ -3,7 +3,7 @@ use Rattle.std.specs.Prelude.{◌≡◌, ◌⊎◌, true, false, if◌then◌els
 use Rattle.std.specs.Option.{option_map}
 use Rattle.std.proofs.Common.{sym, ◌∙◌, ap, subst, inl, inr, arith, length-append, true≢false}
 use Rattle.std.proofs.lemmas.Bool.{cases_Bool}
-use Rattle.nl_types.specs.Paths.{Name, Path, same_name, same_path}
+use Rattle.nl_types.specs.Plain.Paths.{Name, Path, same_name, same_path}
 use Rattle.nl_types.specs.Facts.TreeLaws.{same_path-equal}
 use Rattle.nl_types.specs.Facts.Lookups.{same_path-itself, same_name-itself, same_name-equal}
 

@@ -1,5 +1,5 @@
 use Rattle.std.proofs.Common.{◌≡◌, ◌∙◌, ap, rules}
-use Rattle.nl_types.specs.Rows.{kept_row}
+use Rattle.nl_types.specs.Plain.Rows.{kept_row}
 use Rattle.nl_cpfile.specs.Tables.{rows}
 use Rattle.nl_commit.specs.Layout.{layout_pages}
 use Rattle.nl_events.specs.Facts.CheckpointEvents.{rows-means}

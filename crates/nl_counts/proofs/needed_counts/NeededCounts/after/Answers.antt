@@ -24,17 +24,17 @@ take_run_off-requires-clause-listed g c =
     (sym c.self.view_is) c.requires.counted.1))
 
 pub returns-clause-counts : goal.returns-clause-counts
-returns-clause-counts g c = λ kept stay counted removed tells.
+returns-clause-counts g c = λ kept counted removed.
     let (left, listed, gone) = c.take_run_off.ensures in
     after-removal c.needed_numbers_are_counted.ensures (g.V.Vstore.store c.args.store.now)
     (g.met.V.Vstore.is_store c.args.store.now)
     (record { fewer = c.removals_let_a_run_go.ensures.fewer; run = c.removals_let_a_run_go.ensures.run })
-    (g.K.Keeping.test c.args.staying.now)
+    (g.K.Keeping.kept c.args.staying.now)
     c.args.first c.args.next _ _
     (record {
       counts = c.self.inside.counts;
       ends = c.self.inside.ends.ended;
       room = c.self.inside.ends.room;
     })
-    c.run-from.ensures left _ listed gone kept stay
-    (subst (IsCounted (g.V.Vstore.store c.args.store.now) kept) (sym c.self.view_is) counted) removed tells
+    c.run-from.ensures left _ listed gone kept
+    (subst (IsCounted (g.V.Vstore.store c.args.store.now) kept) (sym c.self.view_is) counted) removed

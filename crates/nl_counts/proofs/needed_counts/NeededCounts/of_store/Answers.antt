@@ -1,5 +1,5 @@
 use Rattle.std.proofs.Common.{ℕ, length, replicate, ap, arith, ◌∙◌}
-use Rattle.nl_types.specs.Segments.{Segments}
+use Rattle.nl_types.specs.Blocks.Segments.{Segments}
 use Rattle.nl_counts.proofs.EventSteps.{after-walk}
 use Rattle.nl_counts.proofs.needed_counts.NeededCounts.of_store.Goals as goal
 
@@ -17,7 +17,7 @@ walk-requires g c =
     (c.sustat-segments.ensures.segments ∙ ap (λ (s : Segments). length s.each) c.table.ensures)
 
 pub returns-clause-counted : goal.returns-clause-counted
-returns-clause-counted g c = λ latest kept tells last.
+returns-clause-counted g c = λ latest last.
     after-walk c.needed_numbers_are_counted.ensures (g.V.Vstore.store c.args.store.now)
-    (g.met.V.Vstore.is_store c.args.store.now) (g.K.Keeping.test c.args.keeping.now)
-    _ _ _ c.in_ok-ended.ensures c.from_found.ensures.rising c.from_found.ensures.same _ latest kept tells last
+    (g.met.V.Vstore.is_store c.args.store.now) (g.K.Keeping.kept c.args.keeping.now)
+    _ _ _ c.in_ok-ended.ensures c.from_found.ensures.rising c.from_found.ensures.same _ latest last

@@ -23,16 +23,16 @@ let_go-requires-clause-listed g c =
     (sym c.self.view_is) c.requires.counted.1)
 
 pub returns : goal.returns
-returns g c = λ kept stay counted removed tells.
+returns g c = λ kept counted removed.
     after-removed c.needed_numbers_are_counted.ensures (g.V.Vstore.store c.args.store.now)
     (g.met.V.Vstore.is_store c.args.store.now)
     (record { fewer = c.removals_let_a_run_go.ensures.fewer; run = c.removals_let_a_run_go.ensures.run })
-    (g.K.Keeping.test c.args.keeping.now)
+    (g.K.Keeping.kept c.args.keeping.now)
     c.args.first c.args.next _ _
     (record {
       counts = c.self.inside.counts;
       ends = c.self.inside.ends.ended;
       room = c.self.inside.ends.room;
     })
-    c.run-from.ensures _ _ c.let_go.ensures.listed c.let_go.ensures.gone _ kept stay
-    (subst (IsCounted (g.V.Vstore.store c.args.store.now) kept) (sym c.self.view_is) counted) removed tells
+    c.run-from.ensures _ _ c.let_go.ensures.listed c.let_go.ensures.gone _ kept
+    (subst (IsCounted (g.V.Vstore.store c.args.store.now) kept) (sym c.self.view_is) counted) removed

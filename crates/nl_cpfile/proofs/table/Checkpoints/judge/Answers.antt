@@ -3,7 +3,7 @@ use Rattle.std.specs.List.{All, AllPairs}
 use Rattle.nl_cpfile.specs.declared.checkpoint.Checkpoint.{Checkpoint}
 use Rattle.nl_types.specs.declared.row.Range.{Range}
 use Rattle.nl_cpfile.specs.Inside.{table_of}
-use Rattle.nl_types.specs.Rows.{rows_between, judged_range, range_removal}
+use Rattle.nl_types.specs.Plain.Rows.{rows_between, judged_range, range_removal}
 use Rattle.nl_cpfile.specs.Tables.{RoomyTable, rows, rows_of}
 use Rattle.nl_cpfile.proofs.Ranges.{range_removal-found, range_removal-none, removable-low, removable-rise}
 use Rattle.nl_cpfile.proofs.table.Checkpoints.judge.Goals as goal

@@ -1,7 +1,7 @@
 use Rattle.std.proofs.Common.{◌≡◌, ◌∙◌, ◌∷◌, [], Bor, false, Option, None, Some, ap, sym}
 use Rattle.std.specs.Prelude.{◌||◌}
 use Rattle.std.specs.Option.{option_copied}
-use Rattle.nl_types.specs.Rows.{reason_to_stay}
+use Rattle.nl_types.specs.Plain.Rows.{reason_to_stay}
 use Rattle.nl_cpfile.specs.declared.checkpoint.Checkpoint.{Checkpoint}
 use Rattle.nl_cpfile.specs.Tables.{checkpoint_row, rows}
 use Rattle.nl_cpfile.proofs.Told.{going-apart, going-low, reason-is, removal-kept, removal-none}

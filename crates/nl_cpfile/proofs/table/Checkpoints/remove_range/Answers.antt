@@ -1,6 +1,6 @@
 use Rattle.std.proofs.Common.{◌∙◌, ap, sym}
 use Rattle.nl_types.specs.declared.row.Range.{Range}
-use Rattle.nl_types.specs.Rows as told
+use Rattle.nl_types.specs.Plain.Rows as told
 use Rattle.nl_cpfile.specs.Tables.{rows, without}
 use Rattle.nl_cpfile.proofs.table.Checkpoints.remove_range.Goals as goal
 

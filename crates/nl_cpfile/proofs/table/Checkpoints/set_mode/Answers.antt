@@ -1,7 +1,7 @@
 use Rattle.std.proofs.Common.{◌≡◌, ◌∙◌, refl, List, get_or, ap, subst, sym}
 use Rattle.nl_cpfile.specs.declared.checkpoint.Checkpoint.{Checkpoint}
 use Rattle.nl_cpfile.specs.Inside.{table_of}
-use Rattle.nl_types.specs.Rows.{mode_change}
+use Rattle.nl_types.specs.Plain.Rows.{mode_change}
 use Rattle.nl_cpfile.specs.Searching.{HasNumberAt}
 use Rattle.nl_cpfile.specs.Tables.{IsTable, RoomyTable, RoomyList, rows, with_mode}
 use Rattle.nl_cpfile.specs.Facts.Found.{earlier-IsRising, kept-earlier, kept-last, kept-none, with_mode-earlier, with_mode-latest}

@@ -2,8 +2,8 @@ use Rattle.std.proofs.Common.{◌≡◌, ◌∙◌, List, ℕ, ap, refl, rules, 
 use Rattle.std.proofs.lemmas.Fn.{filter_same}
 use Rattle.std.specs.List.{filter}
 use Rattle.nl_cpfile.specs.Inside.{table_of}
-use Rattle.nl_types.specs.NumberLists.{is_one_of}
-use Rattle.nl_types.specs.Rows.{rows_between, judged_range}
+use Rattle.nl_types.specs.Plain.NumberLists.{is_one_of}
+use Rattle.nl_types.specs.Plain.Rows.{rows_between, judged_range}
 use Rattle.nl_cpfile.specs.Tables.{IsTable, RoomyTable, Table, rows, without}
 use Rattle.nl_cpfile.proofs.Ranges.{latest-not_removed, stays_in, stays-removed}
 use Rattle.nl_cpfile.specs.Facts.Rising.{filter-IsTable, same_table}

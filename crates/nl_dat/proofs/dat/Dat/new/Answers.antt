@@ -1,5 +1,5 @@
 use Rattle.std.proofs.Common.{◌≡◌, ◌+◌, ◌*◌, None, Option, ap, ◌∙◌, length, replicate}
-use Rattle.nl_types.specs.Segments.{Segments}
+use Rattle.nl_types.specs.Blocks.Segments.{Segments}
 use Rattle.nl_dat.specs.declared.entries.DatEntry.{DatEntry}
 use Rattle.nl_dat.proofs.StoreOf.{is_store, store_of-empty, table-empty}
 use Rattle.nl_dat.proofs.dat.Dat.new.Goals as goal

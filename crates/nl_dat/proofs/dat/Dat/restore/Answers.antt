@@ -1,7 +1,7 @@
 use Rattle.std.proofs.Common.{◌≡◌, List, Option, subst, refl}
 use Rattle.nl_space.specs.Content.{SpaceContent}
 use Rattle.nl_dat.specs.declared.entries.DatEntry.{DatEntry}
-use Rattle.nl_dat.specs.Inside.{IsTable, births_in}
+use Rattle.nl_dat.specs.Inside.{IsDatTable, births_in}
 use Rattle.nl_dat.specs.Table.{HaveOwnPayload, addresses_of, entry_in}
 use Rattle.nl_dat.proofs.OwnPayload.{restored_table}
 use Rattle.nl_dat.proofs.ShownNumbers.{entries-store_of}
@@ -15,7 +15,7 @@ invariant_of-result g c =
     subst (λ (t : List (Option DatEntry)). HaveOwnPayload (addresses_of (entry_in t)) (births_in space))
     c.as_slice.ensures
     (c.if-not-have_own_payload.ensures.0 refl) in
-    let tabled : IsTable c.args.table 1 space =
+    let tabled : IsDatTable c.args.table 1 space =
     restored_table c.args.table space c.requires (g.met.S.Space.whole_logs c.args.space) own in (
       is_store c.args.table 1 space (g.S.Space.failed c.args.space) tabled (g.met.S.Space.limits c.args.space)
           (g.met.S.Space.whole_logs c.args.space) (g.met.S.Space.holds_only_used c.args.space)

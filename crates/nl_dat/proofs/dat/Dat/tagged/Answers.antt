@@ -1,5 +1,5 @@
 use Rattle.std.proofs.Common.{◌≡◌, ℕ, ◌+◌, ◌*◌, ◌<◌, Some, sym, ap, subst, ◌∙◌}
-use Rattle.nl_types.specs.PartialMaps.{Partial}
+use Rattle.nl_types.specs.Blocks.PartialMaps.{Partial}
 use Rattle.nl_vstore.specs.Stores.{Store, address_in}
 use Rattle.nl_dat.proofs.StoreOf.{address_in-store_of, same_store}
 use Rattle.nl_dat.specs.Facts.Positions.{tagged-row}

@@ -1,5 +1,5 @@
 use Rattle.std.proofs.Common.{sym, ap, ◌∙◌}
-use Rattle.nl_types.specs.Roots.{pages_of}
+use Rattle.nl_types.specs.Blocks.Roots.{pages_of}
 use Rattle.nl_dat.specs.Table.{entry_in}
 use Rattle.nl_vstore.specs.Stores.{Store, content_in}
 use Rattle.nl_dat.proofs.StoreOf.{page-store_of, same_store}

@@ -1,7 +1,7 @@
 use Rattle.std.proofs.Common.{Some, sym, ap, ◌∙◌}
 use Rattle.std.specs.Option.{option_map}
 use Rattle.nl_dat.specs.Table.{entry_in}
-use Rattle.nl_types.specs.Entries.{period_of}
+use Rattle.nl_types.specs.Blocks.Entries.{period_of}
 use Rattle.nl_vstore.specs.Stores.{content_in}
 use Rattle.nl_dat.proofs.StoreOf.{period-store_of, same_store}
 use Rattle.nl_dat.proofs.dat.DatVRead.period.Goals as goal

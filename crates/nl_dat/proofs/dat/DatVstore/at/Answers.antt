@@ -1,7 +1,7 @@
 use Rattle.std.proofs.Common.{◌≡◌, ◌≢◌, ℕ, ◌+◌, ◌*◌, Option, Some, None, sym, ap, subst, ◌∙◌}
 use Rattle.std.specs.Prelude.{MatchOption}
-use Rattle.nl_types.specs.Segments.{Segments}
-use Rattle.nl_types.specs.PartialMaps.{Partial}
+use Rattle.nl_types.specs.Blocks.Segments.{Segments}
+use Rattle.nl_types.specs.Blocks.PartialMaps.{Partial}
 use Rattle.nl_dat.specs.Table.{entry_in, addresses_of}
 use Rattle.nl_vstore.specs.Stores.{address_in}
 use Rattle.nl_vstore.specs.Facts.NumberAt.{at-is}

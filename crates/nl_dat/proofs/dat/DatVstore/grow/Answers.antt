@@ -2,11 +2,11 @@ use Rattle.std.proofs.Common.{◌≡◌, ℕ, ◌+◌, ◌-◌, ◌*◌, ◌≤�
 use Rattle.std.specs.Prelude.{Err, replicate}
 use Rattle.std.proofs.Math.Nat.{mul-le-mul_right}
 use Rattle.nl_device.specs.Failures.{failure_count}
-use Rattle.nl_types.specs.Segments.{Segments}
+use Rattle.nl_types.specs.Blocks.Segments.{Segments}
 use Rattle.nl_space.specs.Content.{IsGrown, SpaceContent}
 use Rattle.nl_vstore.specs.Stores.{HasGrown, IsGrowthRefused, Store}
 use Rattle.nl_dat.specs.declared.entries.DatEntry.{DatEntry}
-use Rattle.nl_dat.specs.Inside.{IsTable, store_of}
+use Rattle.nl_dat.specs.Inside.{IsDatTable, store_of}
 use Rattle.nl_dat.proofs.GrownTable.{front, has-grown, table-grown}
 use Rattle.nl_dat.proofs.Refusals.{growth-refused, writes-counted}
 use Rattle.nl_dat.proofs.StoreOf.{is_store, same_store}
@@ -20,9 +20,9 @@ invariant_of-self-inside-in-Err g c =
     let is : c.truncate.new.self ≡ table =
     c.truncate.ensures ∙ rw (c.in_ok-add_places.ensures.added, c.len-count.ensures) (front table _) in
     let same : later ≡ g.S.Space.content c.self.inside.space = c.in-Err.ensures.same in
-    let tabled : IsTable c.truncate.new.self (c.self.inside.filled + 1) later =
-    subst (λ (t : List (Option DatEntry)). IsTable t (c.self.inside.filled + 1) later) (sym is)
-    (subst (IsTable table (c.self.inside.filled + 1)) (sym same) c.self.inside.tabled) in (
+    let tabled : IsDatTable c.truncate.new.self (c.self.inside.filled + 1) later =
+    subst (λ (t : List (Option DatEntry)). IsDatTable t (c.self.inside.filled + 1) later) (sym is)
+    (subst (IsDatTable table (c.self.inside.filled + 1)) (sym same) c.self.inside.tabled) in (
       is_store c.truncate.new.self (c.self.inside.filled + 1) later (g.S.Space.failed c.grow.new.self) tabled
           (g.met.S.Space.limits c.grow.new.self) (g.met.S.Space.whole_logs c.grow.new.self)
           (g.met.S.Space.holds_only_used c.grow.new.self) (g.met.S.Space.have_logs c.grow.new.self),
@@ -49,8 +49,8 @@ invariant_of-self-inside-in-Ok g c =
     let more : length old.segments.each ≤ c.args.segments =
     subst (λ (s : Store). length s.segments.each ≤ c.args.segments)
     (sym (same_store c.self.view_is)) c.requires.more in
-    let tabled : IsTable c.add_places.new.places (c.self.inside.filled + 1) later =
-    subst (λ (t : List (Option DatEntry)). IsTable t (c.self.inside.filled + 1) later) (sym is)
+    let tabled : IsDatTable c.add_places.new.places (c.self.inside.filled + 1) later =
+    subst (λ (t : List (Option DatEntry)). IsDatTable t (c.self.inside.filled + 1) later) (sym is)
     (table-grown table (c.self.inside.filled + 1) c.args.segments old later
     (g.S.Space.failed c.self.inside.space) (g.S.Space.failed c.grow.new.self) c.self.inside.tabled
     (g.met.S.Space.limits c.self.inside.space).tidy c.growing_keeps_segments.ensures.used
@@ -89,8 +89,8 @@ returns-in-Ok-clause-grown g c =
 pub invariant_of-self-inside : goal.invariant_of-self-inside
 invariant_of-self-inside g c =
     let space = g.S.Space.content c.self.inside.space in
-    let tabled : IsTable c.add_places.new.places (c.self.inside.filled + 1) space =
-    subst (λ (t : List (Option DatEntry)). IsTable t (c.self.inside.filled + 1) space)
+    let tabled : IsDatTable c.add_places.new.places (c.self.inside.filled + 1) space =
+    subst (λ (t : List (Option DatEntry)). IsDatTable t (c.self.inside.filled + 1) space)
     (sym c.in_err-add_places.ensures.refused) c.self.inside.tabled in (
       is_store c.add_places.new.places (c.self.inside.filled + 1) space
           (g.S.Space.failed c.self.inside.space) tabled (g.met.S.Space.limits c.self.inside.space)

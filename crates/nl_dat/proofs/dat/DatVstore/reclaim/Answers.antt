@@ -1,6 +1,6 @@
 use Rattle.std.proofs.Common.{◌≡◌, ◌<◌, ℕ, ◌+◌, ◌*◌, ◌≤◌, Some, List, Option, ap, sym, subst, ◌∙◌, length, arith}
 use Rattle.std.proofs.Math.Nat.{mul-le-mul_right}
-use Rattle.nl_types.specs.Segments.{Segments, info_of}
+use Rattle.nl_types.specs.Blocks.Segments.{Segments, info_of}
 use Rattle.nl_types.specs.Facts.SegmentChanges.{room_of}
 use Rattle.nl_device.specs.Failures.{failure_count}
 use Rattle.nl_space.specs.Content.{SpaceContent}

@@ -3,8 +3,8 @@ use Rattle.std.specs.Prelude.{Err}
 use Rattle.std.specs.List.{All}
 use Rattle.std.proofs.lemmas.Result.{err_from_is_err_and}
 use Rattle.std.proofs.lemmas.List.{length-map}
-use Rattle.nl_types.specs.Segments.{IsClosed, StaysUsed}
-use Rattle.nl_types.specs.PartialMaps.{Partial, adjust_each}
+use Rattle.nl_types.specs.Blocks.Segments.{IsClosed, StaysUsed}
+use Rattle.nl_types.specs.Blocks.PartialMaps.{Partial, adjust_each}
 use Rattle.nl_device.specs.Failures.{Failures, failure_count}
 use Rattle.nl_space.specs.Content.{Payload, SpaceContent, KeepsUsed}
 use Rattle.nl_space.specs.Appended.{IsAppended}
@@ -12,7 +12,7 @@ use Rattle.nl_dat.specs.declared.entries.DatEntry.{DatEntry}
 use Rattle.nl_vstore.specs.Batches.{births_of}
 use Rattle.nl_dat.specs.Table.{addresses_of, entry_in, stored_at, moved_entry}
 use Rattle.nl_vstore.specs.Stores.{Store, IsMoved, IsMoveRefused, is_inside, address_in}
-use Rattle.nl_dat.specs.Inside.{IsBacked, births_in, store_of, IsTable}
+use Rattle.nl_dat.specs.Inside.{IsBacked, births_in, store_of, IsDatTable}
 use Rattle.nl_dat.proofs.Writing.{table-kept}
 use Rattle.nl_dat.proofs.Refusals.{both-counted, reads-counted, total-refused}
 use Rattle.nl_dat.proofs.Relocating.{IsRelocationRefusal, table-moved, is_moved, move-refused, load-refused, theirs-of}
@@ -23,7 +23,7 @@ pub invariant_of-self-inside : goal.invariant_of-self-inside
 invariant_of-self-inside g c =
     let later = g.S.Space.content c.load_all.new.space in
     let tabled =
-    subst (IsTable c.self.inside.table (c.self.inside.filled + 1))
+    subst (IsDatTable c.self.inside.table (c.self.inside.filled + 1))
     (sym c.load_all.ensures.same) c.self.inside.tabled in (
       is_store c.self.inside.table (c.self.inside.filled + 1) later
           (g.S.Space.failed c.load_all.new.space) tabled (g.met.S.Space.limits c.load_all.new.space)
@@ -39,7 +39,7 @@ invariant_of-self-inside-in-Break-branch-2 g c =
     let e = c.in_err-blocks.ensures in
     let tabled =
     table-kept c.self.inside.table (c.self.inside.filled + 1) mid later
-    (subst (IsTable c.self.inside.table (c.self.inside.filled + 1))
+    (subst (IsDatTable c.self.inside.table (c.self.inside.filled + 1))
     (sym c.in_ok-payload.ensures.same) c.self.inside.tabled)
     e.used_stay e.stays
     (total-refused mid later false c.args.now c.args.checkpoint c.deref.result.now c.in_err-blocks.field-0.0

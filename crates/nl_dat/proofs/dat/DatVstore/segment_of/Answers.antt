@@ -1,7 +1,7 @@
 use Rattle.std.proofs.Common.{◌≡◌, ℕ, ◌/◌, sym, ap, subst, ◌∙◌}
 use Rattle.std.specs.Option.{option_map}
-use Rattle.nl_types.specs.Segments.{Segments}
-use Rattle.nl_types.specs.PartialMaps.{Partial}
+use Rattle.nl_types.specs.Blocks.Segments.{Segments}
+use Rattle.nl_types.specs.Blocks.PartialMaps.{Partial}
 use Rattle.nl_dat.specs.Table.{entry_in, addresses_of}
 use Rattle.nl_vstore.specs.Counts.{IsSegmentOf}
 use Rattle.nl_vstore.specs.Stores.{Store, address_in}

@@ -2,8 +2,8 @@ use Rattle.std.proofs.Common.{true, ◌≡◌, ℕ, ◌+◌, ◌≤◌, List, Op
 use Rattle.std.specs.Prelude.{max, Err}
 use Rattle.std.proofs.lemmas.Result.{err_from_is_err_and}
 use Rattle.std.proofs.lemmas.List.{length-map}
-use Rattle.nl_types.specs.Entries.{number_of}
-use Rattle.nl_types.specs.PartialMaps.{put_each, adjust_all}
+use Rattle.nl_types.specs.Blocks.Entries.{number_of}
+use Rattle.nl_types.specs.Blocks.PartialMaps.{put_each, adjust_all}
 use Rattle.nl_types.specs.Facts.PartialMaps.{is_one_of-get_or}
 use Rattle.nl_space.specs.Content.{Payload}
 use Rattle.nl_dat.specs.declared.entries.DatEntry.{DatEntry}
@@ -13,20 +13,20 @@ use Rattle.nl_vstore.specs.Stores.{Store, IsWritten, IsWriteRefused, IsFaulted, 
 use Rattle.nl_dat.specs.Inside.{store_of}
 use Rattle.nl_dat.proofs.Writing.{items_back, table-kept, table-written, is_written, live_inside, is_born_read}
 use Rattle.nl_dat.proofs.Refusals.{total-refused, is_faulted, write-refused, writes-counted}
-use Rattle.nl_types.specs.Segments.{AreTidy, total_blocks}
-use Rattle.nl_types.specs.Placing as placing
-use Rattle.nl_types.specs.PlacingLaws.{WhatFitsHasRoom}
+use Rattle.nl_types.specs.Blocks.Segments.{AreTidy, total_blocks}
+use Rattle.nl_types.specs.Blocks.Placing as placing
+use Rattle.nl_types.specs.Blocks.PlacingLaws.{WhatFitsHasRoom}
 use Rattle.nl_device.specs.Failures.{Failures, failure_count}
 use Rattle.nl_space.specs.Content.{SpaceContent}
 use Rattle.nl_space.specs.Appended.{IsAppended}
-use Rattle.nl_dat.specs.Inside.{IsTable}
+use Rattle.nl_dat.specs.Inside.{IsDatTable}
 use Rattle.nl_dat.proofs.FreeNumbers.{numbers-inside}
 use Rattle.nl_dat.proofs.StoreOf.{is_store, same_store}
 use Rattle.nl_dat.proofs.dat.DatVstore.write.Goals as goal
 
 inside_of : (table : List (Option DatEntry)) (lowest : ℕ) (space later : SpaceContent) (failures : Failures)
     (now c : ℕ) (changes : Changes) (items : List Payload) (at : List ℕ)
-    → IsTable table lowest space
+    → IsDatTable table lowest space
     → CanBeTaken (total_blocks space.segments) (content_in (store_of table space failures)) changes
     → births_of items ≡ changes.births → WhatFitsHasRoom → AreTidy space.segments
     → IsAppended space later true now c items at → last_number changes.births ≤ total_blocks space.segments
@@ -155,7 +155,7 @@ invariant_of-self-inside-2 g c =
     c.in_ok-numbers.numbers.items c.self.inside.tabled fits c.births.ensures
     c.payload_goes_to_unused_blocks.ensures.room
     (g.met.S.Space.limits c.self.inside.space).tidy e.appended in
-    let tabled : IsTable c.enter_births.new.table (c.max-self-inside.result + 1) later =
+    let tabled : IsDatTable c.enter_births.new.table (c.max-self-inside.result + 1) later =
     rw lowest (table-written c.self.inside.table c.enter_births.new.table
     (c.self.inside.filled + 1) old later (g.S.Space.failed c.self.inside.space)
     (g.S.Space.failed c.append.new.self) c.args.checkpoint c.args.now changes c.births.result.now

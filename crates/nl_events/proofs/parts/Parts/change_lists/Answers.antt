@@ -1,6 +1,6 @@
 use Rattle.std.proofs.Common.{refl, subst}
 use Rattle.std.specs.Prelude.{IfOk}
-use Rattle.nl_types.specs.Roots.{Pages}
+use Rattle.nl_types.specs.Blocks.Roots.{Pages}
 use Rattle.nl_types.specs.declared.event.Event.TheVariants as event
 use Rattle.nl_commit.specs.Changes.{HasChanged}
 use Rattle.nl_commit.specs.Means.{StepsWorldsOver}

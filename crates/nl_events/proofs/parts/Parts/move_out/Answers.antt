@@ -13,7 +13,7 @@ use Rattle.nl_commit.specs.Notes.{told_where}
 use Rattle.nl_commit.specs.Volume.{Lists, minor_checkpoint, with_minor}
 use Rattle.nl_commit.specs.declared.commit.Commit.{Commit}
 use Rattle.nl_events.specs.Facts.CleaningEvents.{does-idle, does-moved, does-not-moved, stays}
-use Rattle.nl_events.specs.Facts.CountedPens.{listed-first, minor-counted, moved-listed, moved-needed, moved-some, not-drafted, not-listed, not-moved}
+use Rattle.nl_events.specs.Facts.CountedPens.{minor-counted, moved-listed, moved-needed, moved-some, not-drafted, not-listed, not-moved}
 use Rattle.nl_events.proofs.NotedEvents.{telling, telling-moved, telling-refused, told-none}
 use Rattle.nl_events.proofs.parts.Parts.move_out.Goals as goal
 
@@ -53,8 +53,7 @@ returns-then-is_empty g c =
     (Ok (answer.Moved 0 0)) []
     (does-idle l s c.args.segment c.args.limit c.args.now listed.count listed.first.items
     c.self.invariant.pen
-    (listed-first l s c.args.segment c.args.limit listed.count listed.first.items
-    c.in_ok-listed.ensures.listed)
+    c.in_ok-listed.ensures.listed
     (sym (ap length c.as_slice.ensures.value) ∙ none))
     (told-none told before) refl)
 
@@ -72,8 +71,7 @@ returns-in_err-minor g c =
     (does-not-moved l s s c.args.segment c.args.limit c.args.now c.self.invariant.pen
     c.self.invariant.pen.sound.store (omega arith) e
     (not-drafted l s s c.args.segment c.args.limit c.args.now listed.count listed.first.items
-    (listed-first l s c.args.segment c.args.limit listed.count listed.first.items
-    c.in_ok-listed.ensures.listed)
+    c.in_ok-listed.ensures.listed
     e (some-listed _ _ _ c.is_empty.ensures c.if-is_empty.false c.as_slice.ensures.value) refl
     c.in_err-minor.ensures.refused))
     refl)
@@ -96,8 +94,7 @@ returns-in_err-reserve g c =
     (does-not-moved l s s c.args.segment c.args.limit c.args.now c.self.invariant.pen
     c.self.invariant.pen.sound.store (omega arith) error.Memory
     (not-drafted l s s c.args.segment c.args.limit c.args.now listed.count listed.first.items
-    (listed-first l s c.args.segment c.args.limit listed.count listed.first.items
-    c.in_ok-listed.ensures.listed)
+    c.in_ok-listed.ensures.listed
     error.Memory (some-listed _ _ _ c.is_empty.ensures c.if-is_empty.false c.as_slice.ensures.value) refl
     c.in_ok-minor.ensures.left))
     c.reserve.ensures.same)
@@ -118,8 +115,7 @@ returns-in_err-count g c =
     (does-not-moved l old new c.args.segment c.args.limit c.args.now c.self.invariant.pen
     (g.met.V.Vstore.is_store c.move_listed.new.store) c.move_listed.ensures.counted e
     (not-moved l old new c.args.segment c.args.limit c.args.now listed.count listed.first.items
-    (listed-first l old c.args.segment c.args.limit listed.count listed.first.items
-    c.in_ok-listed.ensures.listed)
+    c.in_ok-listed.ensures.listed
     c.in_ok-minor.minor.number e c.in_ok-minor.ensures.left
     (ap (λ (m : Checkpoint). m.number) c.in_ok-minor.ensures.drafted) c.in_err-count.ensures.refused))
     c.reserve.ensures.same)
@@ -151,8 +147,7 @@ moved-requires g c =
       moved-needed c.first_needed_stand_there.ensures l old (g.V.Vstore.store c.move_listed.new.store)
           c.args.segment c.args.limit c.in_ok-minor.minor.number c.args.now listed.first.items
           c.as_slice-2.result.now c.self.invariant.pen.sound.store c.as_slice-2.ensures.value
-          (listed-first l old c.args.segment c.args.limit listed.count listed.first.items
-          c.in_ok-listed.ensures.listed).first
+          c.in_ok-listed.ensures.listed.first
           c.in_ok-listed.ensures.movable c.in_ok-count.ensures.moved,
     )
 
@@ -185,9 +180,7 @@ returns g c =
     let count = c.in_ok-count.count in
     let told = g.N.Notes.told in
     let before = g.N.Notes.commits c.args.notes.now in
-    let first =
-    listed-first l old c.args.segment c.args.limit listed.count listed.first.items
-    c.in_ok-listed.ensures.listed in
+    let first = c.in_ok-listed.ensures.listed in
     let has =
     moved-listed l old new c.args.segment c.args.limit c.args.now listed.count listed.first.items first
     c.listed_moves_are_moves.ensures.moved minor.number count
@@ -217,9 +210,7 @@ invariant_of-self-2 g c =
     let old = g.V.Vstore.store c.self.inside.store in
     let new = g.V.Vstore.store c.move_listed.new.store in
     let listed = c.in_ok-listed.listed in
-    let first =
-    listed-first l old c.args.segment c.args.limit listed.count listed.first.items
-    c.in_ok-listed.ensures.listed in
+    let first = c.in_ok-listed.ensures.listed in
     let lists = with-minor l c.draft_minor.new.self.lists c.publish_minor.new.self.lists c.in_ok-minor.minor
     c.args.now c.draft_minor.ensures.same c.in_ok-minor.ensures.drafted c.publish_minor.ensures in
     let has =

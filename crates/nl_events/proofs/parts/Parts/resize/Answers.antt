@@ -5,7 +5,7 @@ use Rattle.std.proofs.lemmas.Result.{err_from_is_err_and}
 use Rattle.nl_types.specs.declared.error.VolError.TheVariants as error
 use Rattle.nl_types.specs.declared.event.Event.TheVariants.{Resize}
 use Rattle.nl_types.specs.declared.reply.Answer.TheVariants as answer
-use Rattle.nl_types.specs.Segments.{Segments}
+use Rattle.nl_types.specs.Blocks.Segments.{Segments}
 use Rattle.nl_counts.specs.Counted.{Counted}
 use Rattle.nl_commit.specs.CleaningEvents.{kept_numbers, resized_in}
 use Rattle.nl_commit.specs.Layout.{layout_of}

@@ -1,7 +1,7 @@
 use Rattle.std.proofs.Common.{◌≡◌, ap, ◌∙◌, subst, sym}
 use Rattle.std.specs.Prelude.{Bool, Err, Ok, ◌||◌}
 use Rattle.std.proofs.lemmas.Result.{err_from_is_err_and}
-use Rattle.nl_types.specs.Calls as calls
+use Rattle.nl_types.specs.Plain.Calls as calls
 use Rattle.nl_types.specs.declared.event.Event.TheVariants.{Apply}
 use Rattle.nl_tree.specs.Became.{Current}
 use Rattle.nl_layout.specs.Root.{root_of}

@@ -3,7 +3,7 @@ use Rattle.std.specs.Prelude.{Ok, Err}
 use Rattle.std.proofs.lemmas.Result.{err_from_is_err_and}
 use Rattle.nl_types.specs.declared.event.Event.TheVariants.{Expire}
 use Rattle.nl_types.specs.declared.reply.Answer.TheVariants as answer
-use Rattle.nl_types.specs.NumberLists.{is_one_of}
+use Rattle.nl_types.specs.Plain.NumberLists.{is_one_of}
 use Rattle.nl_cpfile.specs.Tables as tables
 use Rattle.nl_events.specs.Inside.{lists_of}
 use Rattle.nl_commit.specs.Means.{StepsWorldsOver}

@@ -1,7 +1,7 @@
 use Rattle.std.proofs.Common.{ap, ◌∙◌}
 use Rattle.std.specs.Prelude.{Ok}
 use Rattle.nl_types.specs.declared.reply.Answer.TheVariants as answer
-use Rattle.nl_types.specs.Rows as told
+use Rattle.nl_types.specs.Plain.Rows as told
 use Rattle.nl_cpfile.specs.Tables as tables
 use Rattle.nl_commit.specs.Tables.{RoomyLists}
 use Rattle.nl_events.specs.Facts.CheckpointEvents.{listing-follows}

@@ -1,5 +1,5 @@
 use Rattle.std.proofs.Common.{◌≡◌}
-use Rattle.nl_types.specs.Roots.{page_at}
+use Rattle.nl_types.specs.Blocks.Roots.{page_at}
 use Rattle.nl_layout.specs.Root.{root_of}
 use Rattle.nl_files.proofs.DirectoryBlocks.{IsReadUpTo}
 use Rattle.nl_files.proofs.directory.Directory.records.Given as goal

@@ -1,5 +1,5 @@
 use Rattle.std.proofs.Common.{ap, arith, sym, subst, ◌∙◌}
-use Rattle.nl_types.specs.Roots.{page_at}
+use Rattle.nl_types.specs.Blocks.Roots.{page_at}
 use Rattle.nl_layout.specs.Root.{root_of}
 use Rattle.nl_dirs.specs.Listings.{HoldsRecords}
 use Rattle.nl_tree.specs.Held.{Listed, held_count}

@@ -1,7 +1,7 @@
 use Rattle.std.proofs.Common.{ap, sym, ◌∙◌}
 use Rattle.std.proofs.lemmas.Result.{IfErr-weaker, IfOk-weaker}
-use Rattle.nl_types.specs.Calls.{list}
-use Rattle.nl_types.specs.Trees.{Tree}
+use Rattle.nl_types.specs.Plain.Calls.{list}
+use Rattle.nl_types.specs.Plain.Trees.{Tree}
 use Rattle.nl_folders.proofs.Emptied.{listed_in, list-emptied}
 use Rattle.nl_folders.proofs.passing.PassingFolder.list.Goals as goal
 

@@ -1,7 +1,7 @@
 use Rattle.std.proofs.Common.{List, Ok, ap, sym, ◌∙◌, ℕ}
 use Rattle.std.proofs.lemmas.Result.{IfErr-weaker, IfOk-weaker}
-use Rattle.nl_types.specs.Calls.{file_at}
-use Rattle.nl_types.specs.Trees.{Tree}
+use Rattle.nl_types.specs.Plain.Calls.{file_at}
+use Rattle.nl_types.specs.Plain.Trees.{Tree}
 use Rattle.nl_folders.proofs.Emptied.{read_in, passed-emptied, read-emptied}
 use Rattle.nl_folders.proofs.passing.PassingFolder.read.Goals as goal
 

@@ -20,7 +20,7 @@ returns-clause-refused g c =
     let replies =
     kept_replies c.args.self.now.number c.in_ok-ask.ask (ask.Bytes (spelling c.args.path.now) 0 18446744073709551615) c.read_at-reply.result tree
     (g.V.Volume.means c.args.self.now.volume.now) c.in_ok-ask.ensures.asked c.read_at-reply.ensures shown in
-    bytes_refused c.args.path.now tree bytes c.read_at-reply.result e
+    bytes_refused c.args.path.now 18446744073709551615 tree bytes c.read_at-reply.result e
     (read_named tree c.args.path.now bytes shown.is_tree is) is replies other refused)
 
 pub returns-in_err-ask-clause-refused : goal.returns-in_err-ask-clause-refused

@@ -21,7 +21,7 @@ returns-clause-refused g c =
     current_replies c.in_ok-ask.ask (ask.Bytes (spelling c.args.path.now) 0 18446744073709551615) c.apply-reply.result tree
     (g.V.Volume.means c.args.self.now.volume) (g.V.Volume.means c.apply-reply.new.self) c.in_ok-ask.ensures.asked
     c.apply-reply.ensures shown in
-    bytes_refused c.args.path.now tree bytes c.apply-reply.result e
+    bytes_refused c.args.path.now 18446744073709551615 tree bytes c.apply-reply.result e
     (read_named tree c.args.path.now bytes shown.is_tree is) is replies other refused)
 
 pub returns-in_err-ask-clause-refused : goal.returns-in_err-ask-clause-refused

@@ -1,6 +1,6 @@
 use Rattle.std.proofs.Common.{sym, subst}
 use Rattle.nl_types.specs.declared.event.Event.{Event}
-use Rattle.nl_types.specs.Worlds.{IsDoneUnlessMemory, step}
+use Rattle.nl_types.specs.Plain.Worlds.{IsDoneUnlessMemory, step}
 use Rattle.nl_model.specs.Model.{cleaned_by}
 use Rattle.nl_model.proofs.world.World.apply.Goals as goal
 

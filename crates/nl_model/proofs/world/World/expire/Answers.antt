@@ -1,8 +1,8 @@
 use Rattle.std.proofs.Common.{◌≡◌, ap, sym, ◌∙◌}
 use Rattle.std.specs.Prelude.{Ok, map}
 use Rattle.nl_types.specs.declared.reply.Answer.TheVariants.{Expired}
-use Rattle.nl_types.specs.Protection.{boundary, expired}
-use Rattle.nl_types.specs.Worlds.{World, boundary_of, expiry_of, greatest, latest, numbers, copy_row, rows, take_out}
+use Rattle.nl_types.specs.Plain.Protection.{boundary, expired}
+use Rattle.nl_types.specs.Plain.Worlds.{World, boundary_of, expiry_of, greatest, latest, numbers, copy_row, rows, take_out}
 use Rattle.nl_model.proofs.world.World.expire.Goals as goal
 
 pub returns : goal.returns

@@ -7,4 +7,4 @@ returns g c = λ held h were.
     more_read c.args.into.now c.read_bytes.new.into c.args.from c.args.to c.requires.within c.requires.room
     c.read_bytes.auto.into
     (held_block (held c.args.self.now.file.now.inode)) c.args.self.now.offset
-    (rw c.get.ensures at (c.read_bytes.ensures held h)) were
+    (c.read_bytes.ensures held h) were

@@ -1,6 +1,6 @@
 use Rattle.std.proofs.Common.{◌≡◌, ◌+◌, ◌-◌, ◌<◌, ◌≤◌, ◌^◌, length}
-use Rattle.nl_types.specs.Trees.{Tree}
-use Rattle.nl_commit.specs.Commits.{image_of}
+use Rattle.nl_types.specs.Plain.Trees.{Tree}
+use Rattle.nl_commit.specs.Commits.{shown_after}
 use Rattle.nl_publish.specs.Told.{TreeOn}
 use Rattle.nl_lanes.specs.Reading.{IsLater}
 use Rattle.nl_mounts.specs.OpenFiles.{IsReadUpTo}
@@ -14,7 +14,7 @@ invariant-loop-count g l = record {
   fits : l.offset + l.count < 2 ^ 64;
   later : IsLater l.fn.port.known l.port.known;
   kept : l.port ≡ seeing l.fn.port l.port.known;
-  reads : (t : Tree) → TreeOn (image_of l.self.mount.told.commits) l.self.mount.checkpoint t
+  reads : (t : Tree) → TreeOn (shown_after l.self.mount.told.commits) l.self.mount.checkpoint t
       → IsReadUpTo t l.self.path l.offset l.fn.into l.count l.into;
 }
 

@@ -1,6 +1,6 @@
 use Rattle.std.proofs.Common.{Err, ap, refl, sym, subst}
 use Rattle.nl_types.specs.declared.error.VolError.{VolError}
-use Rattle.nl_commit.specs.Commits.{image_of}
+use Rattle.nl_commit.specs.Commits.{shown_after}
 use Rattle.nl_commit.specs.Shown.{pages_shown}
 use Rattle.nl_publish.specs.Histories.{Known}
 use Rattle.nl_mounts.specs.Caching.{AreCachedPages}
@@ -61,7 +61,7 @@ returns-in-Ok g c =
       touched =
           subst (λ (k : Known).
           TouchesIfAny
-          (OfMountFile (image_of k.commits) m.number c.args.path.now) c.args.offset was result now)
+          (OfMountFile (shown_after k.commits) m.number c.args.path.now) c.args.offset was result now)
           (sym back.known)
           (touches_at m old look.front image tree c.args.path.now c.args.offset was now result finds
           (read_refused (pages_shown image) tree result _ _ _ c.read_in-result.ensures.reads)

@@ -1,6 +1,6 @@
 use Rattle.std.proofs.Common.{Some, Err, ap, sym, refl, subst}
 use Rattle.nl_types.specs.declared.error.VolError.{VolError}
-use Rattle.nl_commit.specs.Commits.{image_of}
+use Rattle.nl_commit.specs.Commits.{shown_after}
 use Rattle.nl_commit.specs.Shown.{pages_shown}
 use Rattle.nl_publish.specs.Histories.{Known}
 use Rattle.nl_mounts.specs.Caching.{AreCachedPages}
@@ -53,7 +53,7 @@ returns-in-Ok g c =
       told = all.told;
       warmed =
           subst (λ (k : Known).
-          Warms (OfMountFile (image_of k.commits) m.number c.args.path.now) c.args.offset c.args.len was
+          Warms (OfMountFile (shown_after k.commits) m.number c.args.path.now) c.args.offset c.args.len was
           result now)
           (sym back.known)
           (warms_at m old look.front image tree c.args.path.now c.args.offset c.args.len was now result finds

@@ -7,8 +7,8 @@ use Rattle.nl_mounts.proofs.shared.Shared.rename.Goals as goal
 
 pub returns : goal.returns
 returns g c =
-    inl (subst (λ (to : List ℕ). HasDone (event.Apply (change.Rename c.args.from.now to)) c.done.result)
+    inl (subst (λ (to : List ℕ). HasDone (event.Apply (change.Rename c.args.from.now to)) c.without_answer.result)
     c.in-Ok.ensures.second
-    (subst (λ (from : List ℕ). HasDone (event.Apply (change.Rename from c.in-Ok.to)) c.done.result)
+    (subst (λ (from : List ℕ). HasDone (event.Apply (change.Rename from c.in-Ok.to)) c.without_answer.result)
     c.in-Ok.ensures.first
-    (has_done _ c.apply.result c.done.result c.apply.ensures c.done.ensures)))
+    (has_done _ c.apply.result c.without_answer.result c.apply.ensures c.without_answer.ensures)))

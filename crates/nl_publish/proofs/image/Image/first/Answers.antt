@@ -1,5 +1,5 @@
 use Rattle.std.proofs.Common.{◌≡◌, [], ◌∷◌, List, ap, sym, ◌∙◌, subst, length}
-use Rattle.nl_commit.specs.Commits.{IsHistory, image_of}
+use Rattle.nl_commit.specs.Commits.{IsHistory, shown_after}
 use Rattle.nl_commit.specs.declared.commit.Commit.{Commit}
 use Rattle.nl_publish.specs.Histories.{IsBegun}
 use Rattle.nl_commit.specs.Shown.{MountsRise}
@@ -8,7 +8,7 @@ use Rattle.nl_publish.proofs.image.Image.first.Goals as goal
 pub first-requires : goal.first-requires
 first-requires g c = record {
   history = subst IsBegun c.requires.first c.token-seen.ensures.begun;
-  mounts = subst (λ (log : List Commit). MountsRise (image_of log)) c.requires.first c.requires.mounts;
+  mounts = subst (λ (log : List Commit). MountsRise (shown_after log)) c.requires.first c.requires.mounts;
 }
 
 pub returns-clause-whole : goal.returns-clause-whole
@@ -17,7 +17,7 @@ returns-clause-whole g c =
     let log : c.token-seen.result.log ≡ commit ∷ [] = c.token-seen.ensures.log ∙ c.requires.first in
     let begun : IsHistory (commit ∷ []) = subst IsBegun c.requires.first c.token-seen.ensures.begun in
     record {
-      shown = c.in_ok-tables.ensures ∙ ap image_of (sym log);
+      shown = c.in_ok-tables.ensures ∙ ap shown_after (sym log);
       count = c.len.ensures ∙ ap length (sym c.token-seen.ensures.log);
       history = subst IsHistory (sym log) begun;
     }

@@ -3,11 +3,11 @@ use Rattle.nl_publish.proofs.locked.Locked.begin.Goals as goal
 
 pub returns-clause-begun : goal.returns-clause-begun
 returns-clause-begun g c =
-    begins_then c.args.self.now c.give_back-begun.new.self c.settle.new.self c.give_back-begun.result
-    c.give_back-begun.ensures c.settle.ensures.sent c.settle.ensures.tried
+    begins_then c.args.self.now c.give_back-begun.new.self c.publish_pending.new.self c.give_back-begun.result
+    c.give_back-begun.ensures c.publish_pending.ensures.sent c.publish_pending.ensures.tried
 
 pub returns-clause-tried : goal.returns-clause-tried
 returns-clause-tried g c =
-    tried_on c.args.self.now c.give_back-begun.new.self c.settle.new.self
+    tried_on c.args.self.now c.give_back-begun.new.self c.publish_pending.new.self
     (back_counts c.args.self.now c.give_back-begun.new.self c.give_back-begun.result c.give_back-begun.ensures)
-    c.settle.ensures.tried
+    c.publish_pending.ensures.tried

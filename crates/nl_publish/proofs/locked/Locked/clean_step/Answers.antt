@@ -12,8 +12,8 @@ returns g c =
     subst (λ (l : Layout). g.G.Round.habits.next c.args.round.now l ≡ Some event) c.pen.ensures
     (sym c.next.ensures ∙ c.in_ok-event.was) in
     Stepped c.begin.new.self event c.run_own-reply.result c.in_default.ensures.begun next
-    (goes_by_still c.begin.new.self c.run_own-reply.new.self c.settle.new.self event c.run_own-reply.result
-    c.run_own-reply.ensures c.settle.ensures.sent)
+    (goes_by_still c.begin.new.self c.run_own-reply.new.self c.publish_pending.new.self event c.run_own-reply.result
+    c.run_own-reply.ensures c.publish_pending.ensures.sent)
     refl c.note-2.ensures
-    (stepped_tried c.args.self.now c.begin.new.self c.run_own-reply.new.self c.settle.new.self event
-    c.run_own-reply.result c.in_default.ensures.begun c.run_own-reply.ensures c.settle.ensures.tried)
+    (stepped_tried c.args.self.now c.begin.new.self c.run_own-reply.new.self c.publish_pending.new.self event
+    c.run_own-reply.result c.in_default.ensures.begun c.run_own-reply.ensures c.publish_pending.ensures.tried)

@@ -9,6 +9,6 @@ returns-in-Err g c = NotBegun c.in-Err.ensures.begun.1 (ap (λ (e : VolError). E
 
 pub returns : goal.returns
 returns g c =
-    ran c.args.self.now c.begin.new.self c.run-reply.new.self c.settle.new.self c.args.event.now
-    c.run-reply.result c.in_default.ensures.begun c.run-reply.ensures c.settle.ensures.sent
-    c.settle.ensures.tried
+    ran c.args.self.now c.begin.new.self c.run-reply.new.self c.publish_pending.new.self c.args.event.now
+    c.run-reply.result c.in_default.ensures.begun c.run-reply.ensures c.publish_pending.ensures.sent
+    c.publish_pending.ensures.tried

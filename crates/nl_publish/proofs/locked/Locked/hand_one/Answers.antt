@@ -2,7 +2,7 @@ use Rattle.std.proofs.Common.{ℕ, ◌+◌, ◌<◌, ◌≤◌, ◌++◌, ◌∷
 use Rattle.nl_commit.specs.Notes.{shown_of}
 use Rattle.nl_publish.specs.declared.image.Entry.{Entry}
 use Rattle.nl_publish.specs.Histories.{Adding}
-use Rattle.nl_publish.specs.Locks.{HeldPen, IsHeld, Keeps, listed}
+use Rattle.nl_publish.specs.Locks.{HeldPen, IsHeld, StaysHeld, listed}
 use Rattle.nl_publish.specs.Refusals.{HasRefused}
 use Rattle.nl_publish.proofs.Counting.{refused_left, refused_right}
 use Rattle.nl_publish.proofs.Handing.{comes_held, comes_keeps, fewer, held_view, left_over, nothing_held, nothing_keeps, taken_in}
@@ -27,7 +27,7 @@ returns-in_default-clause-kept g c =
     let count : HasRefused (w.refusals s.writer + s.log.refusals) (w.refusals s.writer + n.log.refusals) =
     refused_right s.log.refusals n.log.refusals (w.refusals s.writer) told.refused in
     subst (λ (h : HeldPen).
-    Keeps h
+    StaysHeld h
     (held_view (w.shown s.writer) n.noted n.unsent n.waiting.items s.lost (g.P.NotingPen.layout s.pen)
     (w.refusals s.writer + n.log.refusals)))
     c.self.view_is
@@ -68,7 +68,7 @@ returns-in-Ok-clause-kept g c =
     let count : w.refusals s.writer + s.log.refusals ≤ w.refusals c.push.new.self + n.log.refusals =
     omega (arith, c.in-Ok.ensures.counted, ap (λ (a : Adding). a.refusals) c.in-Some.ensures.same) in
     subst (λ (h : HeldPen).
-    Keeps h
+    StaysHeld h
     (held_view (w.shown c.push.new.self) n.noted n.unsent n.waiting.items s.lost layout
     (w.refusals c.push.new.self + n.log.refusals)))
     c.self.view_is
@@ -111,7 +111,7 @@ returns-in-Err-clause-kept g c =
     let count : w.refusals s.writer + s.log.refusals ≤ w.refusals c.push.new.self + n.log.refusals =
     omega (arith, c.in-Err.ensures.counted.later, ap (λ (a : Adding). a.refusals) c.in-Some.ensures.same) in
     subst (λ (h : HeldPen).
-    Keeps h
+    StaysHeld h
     (held_view (w.shown c.push.new.self) n.noted c.keep_entry.new.unsent n.waiting.items s.lost layout
     (w.refusals c.push.new.self + n.log.refusals)))
     c.self.view_is

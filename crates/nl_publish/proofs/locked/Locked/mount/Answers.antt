@@ -1,5 +1,5 @@
 use Rattle.std.proofs.Common.{ap, ◌≡◌, ℕ, sym, ◌∙◌, subst, Ok}
-use Rattle.nl_commit.specs.Commits.{image_of}
+use Rattle.nl_commit.specs.Commits.{shown_after}
 use Rattle.nl_commit.specs.declared.commit.Commit.TheVariants as commit
 use Rattle.nl_publish.specs.Histories.{EndsWith, Known}
 use Rattle.nl_publish.specs.Locks.{MountReply, MountRan}
@@ -33,5 +33,5 @@ returns-in-Ok-clause-copy g c w means =
     let here =
     shows_copy c.publish_mount.new.self c.in-Ok.number c.args.checkpoint w c.is_told.ensures mounted
     means in
-    subst (λ (m : Claim). ShowsCopy (image_of m.told.commits) m.checkpoint w) (sym c.new.ensures)
-    (subst (λ (k : Known). ShowsCopy (image_of k.commits) c.args.checkpoint w) (sym c.told.ensures) here)
+    subst (λ (m : Claim). ShowsCopy (shown_after m.told.commits) m.checkpoint w) (sym c.new.ensures)
+    (subst (λ (k : Known). ShowsCopy (shown_after k.commits) c.args.checkpoint w) (sym c.told.ensures) here)

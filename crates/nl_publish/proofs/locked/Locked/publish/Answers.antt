@@ -2,10 +2,10 @@ use Rattle.std.proofs.Common.{inl, inr, refl}
 use Rattle.nl_publish.proofs.Running.{keeps_on, keeps_same, tried_shown}
 use Rattle.nl_publish.proofs.locked.Locked.publish.Goals as goal
 
-pub returns-then-is_settled : goal.returns-then-is_settled
-returns-then-is_settled g c = record {
+pub returns-then-has_published_all : goal.returns-then-has_published_all
+returns-then-has_published_all g c = record {
   kept = keeps_same c.args.self.now c.args.self.now refl;
-  tried = inl c.if-is_settled.ensures;
+  tried = inl c.if-has_published_all.ensures;
 }
 
 pub returns-then-hand_over : goal.returns-then-hand_over

@@ -1,6 +1,6 @@
 use Rattle.std.proofs.Common.{◌+◌, ◌++◌, ◌≡◌, refl, subst, MatchBool}
 use Rattle.nl_commit.specs.Notes.{shown_of}
-use Rattle.nl_publish.specs.Locks.{HeldPen, Keeps, listed}
+use Rattle.nl_publish.specs.Locks.{HeldPen, StaysHeld, listed}
 use Rattle.nl_publish.specs.Refusals.{HasRefused}
 use Rattle.nl_publish.proofs.Counting.{counts_on}
 use Rattle.nl_publish.proofs.Handing.{held_view, shown_so}
@@ -28,7 +28,7 @@ returns-clause-kept g c =
     let new : HeldPen =
     held_view (w.shown c.show.new.self) s.noted s.unsent s.waiting.items s.lost (g.P.NotingPen.layout s.pen)
     (w.refusals c.show.new.self + s.log.refusals) in
-    subst (λ (h : HeldPen). Keeps h new) c.self.view_is (
+    subst (λ (h : HeldPen). StaysHeld h new) c.self.view_is (
       record {
         volume = refl;
         runs = refl;

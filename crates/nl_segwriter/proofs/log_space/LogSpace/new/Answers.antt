@@ -2,7 +2,7 @@ use Rattle.std.proofs.Common.{◌≡◌, ◌*◌, length, ap, sym, ◌∙◌, su
 use Rattle.std.proofs.Math.ListN.{replicate}
 use Rattle.std.proofs.lemmas.List.{length-replicate}
 use Rattle.nl_types.specs.declared.geometry.Geometry.{Geometry}
-use Rattle.nl_types.specs.Segments.{HaveLogs, Segments, clean_info}
+use Rattle.nl_types.specs.Blocks.Segments.{HaveLogs, Segments, clean_info}
 use Rattle.nl_space.specs.Content.{Payload}
 use Rattle.nl_space.specs.Logs.{AreWholeLogs}
 use Rattle.nl_segwriter.specs.Writing.{space_content, held_in}

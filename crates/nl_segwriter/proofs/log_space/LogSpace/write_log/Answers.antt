@@ -1,8 +1,8 @@
 use Rattle.std.proofs.Common.{◌≡◌, ℕ, ◌+◌, ◌*◌, length, List, Option, refl, ap, sym, ◌∙◌, subst}
 use Rattle.nl_types.specs.declared.geometry.Geometry.{Geometry}
 use Rattle.nl_types.specs.declared.segment.Log.{Log}
-use Rattle.nl_types.specs.Segments.{HaveLogs, Segments, with_error}
-use Rattle.nl_types.specs.Placing.{end_of, first_block, with_log}
+use Rattle.nl_types.specs.Blocks.Segments.{HaveLogs, Segments, with_error}
+use Rattle.nl_types.specs.Blocks.Placing.{end_of, first_block, with_log}
 use Rattle.nl_types.specs.Facts.NextLogs.{length-with_log}
 use Rattle.nl_segwriter.specs.declared.staging.Staged.{Staged}
 use Rattle.nl_space.specs.Content.{SpaceContent, Payload, SameOutside, StandInRow, HoldsOnlyUsed}

@@ -2,8 +2,8 @@ use Rattle.std.proofs.Common.{◌≡◌, ℕ, List, [], ◌∷◌, length, arith
 use Rattle.std.specs.List.{AllByRecursion}
 use Rattle.std.specs.Vec.Iter.{into_iter_items}
 use Rattle.std.proofs.lemmas.Result.{err_from_is_err_and}
-use Rattle.nl_types.specs.Segments.{Segments, StaysUsed, AreTidy}
-use Rattle.nl_types.specs.Placing.{AreNextLogs, IsNextLog, first_block, with_log, with_logs}
+use Rattle.nl_types.specs.Blocks.Segments.{Segments, StaysUsed, AreTidy}
+use Rattle.nl_types.specs.Blocks.Placing.{AreNextLogs, IsNextLog, first_block, with_log, with_logs}
 use Rattle.nl_types.specs.Facts.NextLogs.{tidy_with_log}
 use Rattle.nl_types.specs.Facts.UsedParts.{stays_with_log, stays_with_error}
 use Rattle.nl_device.specs.Failures.{CountsWrites, FailsToWrite, Failures}

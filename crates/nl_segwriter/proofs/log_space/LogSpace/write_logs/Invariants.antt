@@ -1,8 +1,8 @@
 use Rattle.std.proofs.Common.{◌≡◌, ℕ, length}
 use Rattle.std.specs.List.{AllByRecursion}
 use Rattle.std.specs.Vec.Iter.{into_iter_items, into_iter_len}
-use Rattle.nl_types.specs.Segments.{StaysUsed, AreTidy}
-use Rattle.nl_types.specs.Placing.{AreNextLogs, with_logs}
+use Rattle.nl_types.specs.Blocks.Segments.{StaysUsed, AreTidy}
+use Rattle.nl_types.specs.Blocks.Placing.{AreNextLogs, with_logs}
 use Rattle.nl_space.specs.Content.{SpaceContent, KeepsUsed, IsSameAt}
 use Rattle.nl_space.specs.Appended.{IsOutside}
 use Rattle.nl_segwriter.specs.Private.Staging.{IsReady, logs_of}

@@ -2,8 +2,8 @@ use Rattle.std.proofs.Common.{◌≡◌, ◌+◌, ◌≤◌, List, sym, ◌∙�
 use Rattle.std.specs.List.{AllByRecursion}
 use Rattle.nl_types.specs.declared.geometry.Geometry.{Geometry}
 use Rattle.nl_types.specs.declared.segment.Log.{Log}
-use Rattle.nl_types.specs.Segments.{Segments, total_blocks}
-use Rattle.nl_types.specs.Placing.{AreNextLogs, first_block, addresses}
+use Rattle.nl_types.specs.Blocks.Segments.{Segments, total_blocks}
+use Rattle.nl_types.specs.Blocks.Placing.{AreNextLogs, first_block, addresses}
 use Rattle.nl_types.specs.Facts.NextLogs.{placed}
 use Rattle.nl_space.specs.Content.{SpaceContent}
 use Rattle.nl_segwriter.specs.Private.Staging.{AreStaged, AreSized}

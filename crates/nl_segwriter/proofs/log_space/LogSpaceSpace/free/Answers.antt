@@ -1,7 +1,7 @@
 use Rattle.std.proofs.Common.{◌≡◌, ℕ, ◌*◌, length, List, Option, ap, sym, ◌∙◌, subst}
 use Rattle.std.proofs.lemmas.List.{length-set}
 use Rattle.nl_types.specs.declared.geometry.Geometry.{Geometry}
-use Rattle.nl_types.specs.Segments.{HaveLogs, Segments, clean_info, with_clean}
+use Rattle.nl_types.specs.Blocks.Segments.{HaveLogs, Segments, clean_info, with_clean}
 use Rattle.nl_space.specs.Content.{SpaceContent, Payload, HoldsOnlyUsed, IsEmptied, IsFreed}
 use Rattle.nl_space.specs.Logs.{AreWholeLogs}
 use Rattle.nl_segwriter.specs.Writing.{space_content, held_in}

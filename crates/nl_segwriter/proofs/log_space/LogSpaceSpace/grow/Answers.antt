@@ -2,7 +2,7 @@ use Rattle.std.proofs.Common.{◌≡◌, ℕ, ◌+◌, ◌-◌, ◌*◌, ◌≤�
 use Rattle.std.proofs.Math.Nat.{mul-le-mul_right}
 use Rattle.std.proofs.lemmas.List.{length-append, length-replicate}
 use Rattle.nl_types.specs.declared.geometry.Geometry.{Geometry}
-use Rattle.nl_types.specs.Segments.{HaveLogs, Segments, grown_to, total_blocks}
+use Rattle.nl_types.specs.Blocks.Segments.{HaveLogs, Segments, grown_to, total_blocks}
 use Rattle.nl_device.specs.Pages.{DevicePages, KeepsBelow}
 use Rattle.nl_space.specs.Content.{HoldsOnlyUsed, Payload, SpaceContent}
 use Rattle.nl_space.specs.Logs.{AreWholeLogs}

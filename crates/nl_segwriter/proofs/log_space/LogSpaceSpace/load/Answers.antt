@@ -1,6 +1,6 @@
 use Rattle.std.proofs.Common.{◌≡◌, ◌*◌, ◌<◌, length, ap, sym, ◌∙◌, subst, refl, inl, inr, Err}
 use Rattle.nl_types.specs.declared.geometry.Geometry.{Geometry}
-use Rattle.nl_types.specs.Segments.{Segments}
+use Rattle.nl_types.specs.Blocks.Segments.{Segments}
 use Rattle.nl_types.specs.Facts.UsedParts.{used_inside}
 use Rattle.nl_types.specs.declared.error.VolError.TheVariants as error
 use Rattle.nl_device.specs.declared.device.DeviceError.{DeviceError}

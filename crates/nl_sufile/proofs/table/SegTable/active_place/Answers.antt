@@ -1,5 +1,5 @@
 use Rattle.std.proofs.Common.{◌∙◌, ap, sym, subst}
-use Rattle.nl_types.specs.Segments.{active_place}
+use Rattle.nl_types.specs.Blocks.Segments.{active_place}
 use Rattle.nl_sufile.specs.Table.{IsActiveIn}
 use Rattle.nl_sufile.proofs.ActiveSegment.{active_nowhere, active_here}
 use Rattle.nl_sufile.proofs.table.SegTable.active_place.Goals as goal

@@ -1,8 +1,8 @@
 use Rattle.std.proofs.Common.{◌≤◌, ◌<◌, refl, subst, sym, length, arith}
 use Rattle.nl_types.specs.declared.segment.SegmentInfo.{SegmentInfo}
 use Rattle.nl_types.specs.declared.segment.SegmentState.TheVariants.{Active}
-use Rattle.nl_types.specs.Segments.{Segments}
-use Rattle.nl_types.specs.Placing.{end_of}
+use Rattle.nl_types.specs.Blocks.Segments.{Segments}
+use Rattle.nl_types.specs.Blocks.Placing.{end_of}
 use Rattle.nl_sufile.proofs.ActiveSegment.{table_active}
 use Rattle.nl_sufile.proofs.table.SegTable.add_log.Goals as goal
 

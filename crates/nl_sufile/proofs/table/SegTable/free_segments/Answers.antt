@@ -1,6 +1,6 @@
 use Rattle.std.proofs.Common.{◌∙◌, refl, arith}
 use Rattle.std.proofs.lemmas.List.{take_all}
-use Rattle.nl_types.specs.Segments.{clean_from}
+use Rattle.nl_types.specs.Blocks.Segments.{clean_from}
 use Rattle.nl_sufile.proofs.table.SegTable.free_segments.Goals as goal
 
 pub returns-then-reserve : goal.returns-then-reserve

@@ -1,7 +1,7 @@
 use Rattle.std.proofs.Common.{◌≡◌, ◌≤◌, ◌-◌, ◌++◌, length, ap, sym, subst, ◌∙◌, arith}
 use Rattle.std.specs.Prelude.{replicate}
-use Rattle.nl_types.specs.Limits.{IsGeometry}
-use Rattle.nl_types.specs.Segments.{Segments, clean_info}
+use Rattle.nl_types.specs.Plain.Limits.{IsGeometry}
+use Rattle.nl_types.specs.Blocks.Segments.{Segments, clean_info}
 use Rattle.nl_sufile.proofs.ActiveSegment.{table_grown}
 use Rattle.nl_sufile.proofs.CleanCounts.{count-most}
 use Rattle.nl_sufile.proofs.table.SegTable.grown.Goals as goal

@@ -1,7 +1,7 @@
 use Rattle.std.proofs.Common.{◌≡◌, ◌∙◌, ◌/◌, refl, ap}
 use Rattle.std.specs.Prelude.{slice_get}
 use Rattle.nl_types.specs.declared.segment.SegmentInfo.{SegmentInfo}
-use Rattle.nl_types.specs.Segments.{info_of}
+use Rattle.nl_types.specs.Blocks.Segments.{info_of}
 use Rattle.nl_sufile.proofs.UsedTests.{none_from_err, not_used, used_test}
 use Rattle.nl_sufile.proofs.table.SegTable.is_used.Goals as goal
 

@@ -1,5 +1,5 @@
 use Rattle.std.proofs.Common.{sym, subst, ◌<◌, length, rules}
-use Rattle.nl_types.specs.Segments.{Segments}
+use Rattle.nl_types.specs.Blocks.Segments.{Segments}
 use Rattle.nl_sufile.proofs.ActiveSegment.{table_clean_other}
 use Rattle.nl_sufile.proofs.table.SegTable.mark_clean.Goals as goal
 

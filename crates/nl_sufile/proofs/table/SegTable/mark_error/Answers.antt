@@ -1,7 +1,7 @@
 use Rattle.std.proofs.Common.{refl, sym, subst, ◌<◌, length}
 use Rattle.nl_types.specs.declared.segment.SegmentInfo.{SegmentInfo}
 use Rattle.nl_types.specs.declared.segment.SegmentState.TheVariants.{Error}
-use Rattle.nl_types.specs.Segments.{Segments, info_of}
+use Rattle.nl_types.specs.Blocks.Segments.{Segments, info_of}
 use Rattle.nl_sufile.proofs.ActiveSegment.{table_error}
 use Rattle.nl_sufile.proofs.table.SegTable.mark_error.Goals as goal
 

@@ -1,4 +1,4 @@
-use Rattle.nl_types.specs.Segments.{Segments}
+use Rattle.nl_types.specs.Blocks.Segments.{Segments}
 use Rattle.nl_sufile.proofs.ActiveSegment.{active_inside}
 use Rattle.nl_sufile.proofs.table.SegTable.place.Goals as goal
 

@@ -1,7 +1,7 @@
 use Rattle.std.proofs.Common.{◌<◌, ◌∙◌, length, sym, refl, arith}
 use Rattle.nl_types.specs.declared.segment.SegmentInfo.{SegmentInfo}
 use Rattle.nl_types.specs.declared.segment.SegmentState.TheVariants.{Active}
-use Rattle.nl_types.specs.Segments.{Segments, clean_from}
+use Rattle.nl_types.specs.Blocks.Segments.{Segments, clean_from}
 use Rattle.nl_sufile.proofs.ActiveSegment.{lowest_within, table_active}
 use Rattle.nl_sufile.proofs.table.SegTable.take_clean.Goals as goal
 

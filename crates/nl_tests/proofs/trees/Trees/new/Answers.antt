@@ -1,7 +1,7 @@
 use Rattle.std.proofs.Common.{refl, sym, ap, subst}
-use Rattle.nl_types.specs.Lifetimes.{blank}
-use Rattle.nl_types.specs.Roots.{Empty}
-use Rattle.nl_types.specs.Trees.{root_alone}
+use Rattle.nl_types.specs.Blocks.Lifetimes.{blank}
+use Rattle.nl_types.specs.Blocks.Roots.{Empty}
+use Rattle.nl_types.specs.Plain.Trees.{root_alone}
 use Rattle.nl_tree.specs.Became.{Current}
 use Rattle.nl_tree.specs.FirstTree.{nothing_held}
 use Rattle.nl_files.specs.TreeLaws.{StandsOverLatest}

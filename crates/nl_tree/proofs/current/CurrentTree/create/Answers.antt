@@ -1,8 +1,8 @@
 use Rattle.std.proofs.Common.{◌+◌, Ok, ap, ◌∙◌}
 use Rattle.std.proofs.lemmas.Result.{err_from_is_err_and}
 use Rattle.nl_types.specs.declared.reply.Answer.TheVariants as answer
-use Rattle.nl_types.specs.Calls.{create}
-use Rattle.nl_types.specs.Paths.{Path}
+use Rattle.nl_types.specs.Plain.Calls.{create}
+use Rattle.nl_types.specs.Plain.Paths.{Path}
 use Rattle.nl_tree.specs.Became.{Current, holding_over}
 use Rattle.nl_tree.specs.Held.{Listed, new_node}
 use Rattle.nl_tree.specs.Overlays.{current_of}

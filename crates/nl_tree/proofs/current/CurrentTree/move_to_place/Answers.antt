@@ -1,6 +1,6 @@
 use Rattle.std.proofs.Common.{◌≡◌, ◌+◌, ◌≤◌, None, OnOk, ap, subst, sym, ◌∙◌}
 use Rattle.std.proofs.lemmas.Result.{on_ok_weaker}
-use Rattle.nl_types.specs.Calls.{rename}
+use Rattle.nl_types.specs.Plain.Calls.{rename}
 use Rattle.nl_tree.specs.Became.{Current, holding_over}
 use Rattle.nl_tree.specs.Held.{Holding, IsInodeNumber}
 use Rattle.nl_tree.specs.Private.Moving.{with_moved}
@@ -72,11 +72,11 @@ returns-in-Some-clause-moved g c = λ b all others holds are.
     directories_inside o c.args.self.now b found all others c.self.invariant c.self.view_is are in
     let orderly = c.rename_onto.ensures.orderly c.self.invariant
     numbers.0 numbers.1
-    (subst IsInodeNumber (sym c.get.ensures) target.number) in
-    rw c.in-Some.is (rw c.get.ensures at (as_lists o c.rename_onto.new.self c.args.self.now b
-    (λ held. with_held c.get.result None (with_moved found all others held)) c.rename_onto.result
+    target.number in
+    rw c.in-Some.is (as_lists o c.rename_onto.new.self c.args.self.now b
+    (λ held. with_held c.in-Some.replaced None (with_moved found all others held)) c.rename_onto.result
     c.self.invariant orderly c.self.view_is
-    (c.rename_onto.ensures.moved b all others holds inside)))
+    (c.rename_onto.ensures.moved b all others holds inside))
 
 pub returns-in-None-clause-done : goal.returns-in-None-clause-done
 returns-in-None-clause-done g c = λ b tree from to holds over move.
@@ -120,14 +120,14 @@ returns-in-Some-clause-done g c = λ b tree from to holds over move.
     directories_inside o c.args.self.now b found both.0 both.1 c.self.invariant c.self.view_is both.2 in
     let orderly = c.rename_onto.ensures.orderly c.self.invariant
     numbers.0 numbers.1
-    (subst IsInodeNumber (sym c.get.ensures) target.number) in
+    target.number in
     calls-as c.rename_onto.result (current_of c.rename_onto.new.self) b (rename tree from to)
-    (rw c.get.ensures at (as_lists o c.rename_onto.new.self c.args.self.now b
-    (λ held. with_held c.get.result None (with_moved found both.0 both.1 held)) c.rename_onto.result
-    c.self.invariant orderly c.self.view_is (c.rename_onto.ensures.moved b both.0 both.1 holds inside)))
+    (as_lists o c.rename_onto.new.self c.args.self.now b
+    (λ held. with_held c.in-Some.replaced None (with_moved found both.0 both.1 held)) c.rename_onto.result
+    c.self.invariant orderly c.self.view_is (c.rename_onto.ensures.moved b both.0 both.1 holds inside))
     (on_ok_weaker c.rename_onto.result (counts_outside c.rename_onto.new.self b orderly)
-    ((rw c.get.ensures at (c.rename_onto.ensures.counts b both.0 both.1 holds inside
-    (counts_inside o c.args.self.now b c.self.invariant c.self.view_is over.counts))) number.0 number.1))
+    ((c.rename_onto.ensures.counts b both.0 both.1 holds inside
+    (counts_inside o c.args.self.now b c.self.invariant c.self.view_is over.counts)) number.0 number.1))
     (subst (λ (now : Current). OnOk c.rename_onto.result (c.rename_onto.new.self.names + 1 ≡ now.names))
     c.self.view_is c.rename_onto.ensures.names)
     c.rename_onto.ensures.refused
@@ -160,4 +160,4 @@ invariant_of-self-in-Some g c =
     move-numbers held asked.1 asked.5.sound asked.5.stands.means asked.2 asked.3 found asked.6 in
     c.rename_onto.ensures.orderly c.self.invariant
     numbers.0 numbers.1
-    (subst IsInodeNumber (sym c.get.ensures) target.number)
+    target.number

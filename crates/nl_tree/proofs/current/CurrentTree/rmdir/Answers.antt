@@ -1,7 +1,7 @@
 use Rattle.std.proofs.Common.{ℕ, ◌≡◌, ◌+◌, ◌≤◌, OnOk, refl, sym, subst, arith, ◌∙◌}
 use Rattle.std.proofs.lemmas.Result.{on_ok_weaker}
 use Rattle.nl_types.specs.declared.kind.Kind.TheVariants as kind
-use Rattle.nl_types.specs.Calls.{rmdir}
+use Rattle.nl_types.specs.Plain.Calls.{rmdir}
 use Rattle.nl_tree.specs.Became.{Current, holding_over}
 use Rattle.nl_tree.specs.Held.{held_count}
 use Rattle.nl_tree.specs.Overlays.{current_of}
@@ -55,13 +55,13 @@ returns-then-name_count-gt0-clause-done g c = λ b tree holds is _.
     let there =
     taken-from held tree c.args.self.now.names is.sound is.stands
     (parts_of names) place.directory place.name.now
-    place.link found.inode c.get.result found.field-0-1 kind.Directory
-    (c.in-Ok.ensures held (c.view.ensures b holds is.sound)) found.is c.get.ensures
+    place.link found.inode found.inode found.field-0-1 kind.Directory
+    (c.in-Ok.ensures held (c.view.ensures b holds is.sound)) found.is refl
     (rw found.is at found.field-0-1-is) in
     let count = c.name_count.ensures held (c.view-in-Some-default-Directory.ensures b holds is.sound) in
     at-parts (rmdir tree) c.args.path.now names c.in_ok-names.ensures c.if-is_empty.ensures
     ∙ rmdir-not_empty held tree is.stands.means is.sound
-    (parts_of names) place.directory place.name.now c.get.result there.place
+    (parts_of names) place.directory place.name.now found.inode there.place
     (omega (arith, count, c.if-name_count-gt0.true))
 
 pub remove-requires : goal.remove-requires
@@ -76,9 +76,9 @@ remove-requires g c =
     let there =
     taken-from held asked.1 c.args.self.now.names is.sound is.stands
     (parts_of names) place.directory place.name.now
-    place.link found.inode c.get-in-Some-default-Directory.result found.field-0-1 kind.Directory
+    place.link found.inode found.inode found.field-0-1 kind.Directory
     (c.in-Ok.ensures held (c.view.ensures b asked.2 is.sound)) found.is
-    c.get-in-Some-default-Directory.ensures
+    refl
     (rw found.is at found.field-0-1-is) in
     record {
       directory = (
@@ -100,15 +100,12 @@ returns-else-name_count-gt0-clause-done g c = λ b tree holds is.
     let there =
     taken-from held tree c.args.self.now.names is.sound is.stands
     (parts_of names) place.directory place.name.now
-    place.link found.inode c.get-in-Some-default-Directory.result found.field-0-1 kind.Directory
+    place.link found.inode found.inode found.field-0-1 kind.Directory
     (c.in-Ok.ensures held (c.view.ensures b holds is.sound)) found.is
-    c.get-in-Some-default-Directory.ensures
+    refl
     (rw found.is at found.field-0-1-is) in
     let count = c.name_count.ensures held (c.view-in-Some-default-Directory.ensures b holds is.sound) in
-    let same : c.get.result ≡ c.get-in-Some-default-Directory.result =
-    c.get.ensures ∙ sym c.get-in-Some-default-Directory.ensures in
-    let bare =
-    subst (λ (i : ℕ). held_count (held i) ≤ 0) same (omega (arith, count, c.if-name_count-gt0.false)) in
+    let bare : held_count (held found.inode) ≤ 0 = omega (arith, count, c.if-name_count-gt0.false) in
     let o = c.self.inside.overlay in
     let here =
     directory_inside o c.args.self.now b place.directory there.records c.self.invariant c.self.view_is
@@ -116,11 +113,11 @@ returns-else-name_count-gt0-clause-done g c = λ b tree holds is.
     let orderly = c.remove.ensures.orderly c.self.invariant there.numbers.0 there.numbers.1 in
     let removed =
     as_lists o c.remove.new.self c.args.self.now b
-    (without_inode place.directory there.records place.name.now c.get-in-Some-default-Directory.result)
+    (without_inode place.directory there.records place.name.now found.inode)
     c.remove.result c.self.invariant orderly c.self.view_is
     (c.remove.ensures.removed b there.records holds here) in
     rmdired-calls c.args.self.now b tree is c.args.path.now names c.in_ok-names.ensures c.if-is_empty.ensures
-    place.directory place.name.now c.get-in-Some-default-Directory.result there.records c.remove.result
+    place.directory place.name.now found.inode there.records c.remove.result
     (current_of c.remove.new.self)
     there.place bare there.is.0 removed
     (on_ok_weaker c.remove.result (counts_outside c.remove.new.self b orderly)
@@ -140,9 +137,9 @@ returns-else-name_count-gt0-clause-changes g c = λ b tree holds is.
     let there =
     taken-from held tree c.args.self.now.names is.sound is.stands
     (parts_of names) place.directory place.name.now
-    place.link found.inode c.get-in-Some-default-Directory.result found.field-0-1 kind.Directory
+    place.link found.inode found.inode found.field-0-1 kind.Directory
     (c.in-Ok.ensures held (c.view.ensures b holds is.sound)) found.is
-    c.get-in-Some-default-Directory.ensures
+    refl
     (rw found.is at found.field-0-1-is) in
     let o = c.self.inside.overlay in
     let here =
@@ -151,12 +148,12 @@ returns-else-name_count-gt0-clause-changes g c = λ b tree holds is.
     let orderly = c.remove.ensures.orderly c.self.invariant there.numbers.0 there.numbers.1 in
     let removed =
     as_lists o c.remove.new.self c.args.self.now b
-    (without_inode place.directory there.records place.name.now c.get-in-Some-default-Directory.result)
+    (without_inode place.directory there.records place.name.now found.inode)
     c.remove.result c.self.invariant orderly c.self.view_is
     (c.remove.ensures.removed b there.records holds here) in
     removed-changes c.args.self.now b tree is c.args.path.now names c.in_ok-names.ensures
     c.if-is_empty.ensures
-    kind.Directory place.directory place.name.now c.get-in-Some-default-Directory.result there.records
+    kind.Directory place.directory place.name.now found.inode there.records
     c.remove.result
     (current_of c.remove.new.self)
     there.place there.is.0 removed
@@ -173,8 +170,8 @@ invariant_of-self g c =
     let there =
     taken-from held asked.1 c.args.self.now.names is.sound is.stands
     (parts_of names) place.directory place.name.now
-    place.link found.inode c.get-in-Some-default-Directory.result found.field-0-1 kind.Directory
+    place.link found.inode found.inode found.field-0-1 kind.Directory
     (c.in-Ok.ensures held (c.view.ensures b asked.2 is.sound)) found.is
-    c.get-in-Some-default-Directory.ensures
+    refl
     (rw found.is at found.field-0-1-is) in
     c.remove.ensures.orderly c.self.invariant there.numbers.0 there.numbers.1

@@ -1,7 +1,7 @@
 use Rattle.std.proofs.Common.{◌≡◌, ◌+◌, ◌≤◌, OnOk, refl, sym, subst, ◌∙◌}
 use Rattle.std.proofs.lemmas.Result.{on_ok_weaker}
 use Rattle.nl_types.specs.declared.kind.Kind.TheVariants as kind
-use Rattle.nl_types.specs.Calls.{unlink}
+use Rattle.nl_types.specs.Plain.Calls.{unlink}
 use Rattle.nl_tree.specs.Became.{Current, holding_over}
 use Rattle.nl_tree.specs.Overlays.{current_of}
 use Rattle.nl_tree.specs.Private.PathParts.{parts_of}
@@ -57,8 +57,8 @@ remove-requires g c =
     let there =
     taken-from held asked.1 c.args.self.now.names is.sound is.stands
     (parts_of names) place.directory place.name.now
-    place.link found.inode c.get.result found.field-0-1 kind.File
-    (c.in-Ok.ensures held (c.view.ensures b asked.2 is.sound)) found.is c.get.ensures
+    place.link found.inode found.inode found.field-0-1 kind.File
+    (c.in-Ok.ensures held (c.view.ensures b asked.2 is.sound)) found.is refl
     (rw found.is at found.field-0-1-is) in
     record {
       directory = (
@@ -80,8 +80,8 @@ returns-in-Some-default-File-clause-done g c = λ b tree holds is.
     let there =
     taken-from held tree c.args.self.now.names is.sound is.stands
     (parts_of names) place.directory place.name.now
-    place.link found.inode c.get.result found.field-0-1 kind.File
-    (c.in-Ok.ensures held (c.view.ensures b holds is.sound)) found.is c.get.ensures
+    place.link found.inode found.inode found.field-0-1 kind.File
+    (c.in-Ok.ensures held (c.view.ensures b holds is.sound)) found.is refl
     (rw found.is at found.field-0-1-is) in
     let o = c.self.inside.overlay in
     let here =
@@ -90,11 +90,11 @@ returns-in-Some-default-File-clause-done g c = λ b tree holds is.
     let orderly = c.remove.ensures.orderly c.self.invariant there.numbers.0 there.numbers.1 in
     let removed =
     as_lists o c.remove.new.self c.args.self.now b
-    (without_inode place.directory there.records place.name.now c.get.result)
+    (without_inode place.directory there.records place.name.now found.inode)
     c.remove.result c.self.invariant orderly c.self.view_is
     (c.remove.ensures.removed b there.records holds here) in
     unlinked-calls c.args.self.now b tree is c.args.path.now names c.in_ok-names.ensures c.if-is_empty.ensures
-    place.directory place.name.now c.get.result there.records c.remove.result (current_of c.remove.new.self)
+    place.directory place.name.now found.inode there.records c.remove.result (current_of c.remove.new.self)
     there.place there.is.0 removed
     (on_ok_weaker c.remove.result (counts_outside c.remove.new.self b orderly)
     (c.remove.ensures.counts b there.records holds here
@@ -113,8 +113,8 @@ returns-in-Some-default-File-clause-changes g c = λ b tree holds is.
     let there =
     taken-from held tree c.args.self.now.names is.sound is.stands
     (parts_of names) place.directory place.name.now
-    place.link found.inode c.get.result found.field-0-1 kind.File
-    (c.in-Ok.ensures held (c.view.ensures b holds is.sound)) found.is c.get.ensures
+    place.link found.inode found.inode found.field-0-1 kind.File
+    (c.in-Ok.ensures held (c.view.ensures b holds is.sound)) found.is refl
     (rw found.is at found.field-0-1-is) in
     let o = c.self.inside.overlay in
     let here =
@@ -123,12 +123,12 @@ returns-in-Some-default-File-clause-changes g c = λ b tree holds is.
     let orderly = c.remove.ensures.orderly c.self.invariant there.numbers.0 there.numbers.1 in
     let removed =
     as_lists o c.remove.new.self c.args.self.now b
-    (without_inode place.directory there.records place.name.now c.get.result)
+    (without_inode place.directory there.records place.name.now found.inode)
     c.remove.result c.self.invariant orderly c.self.view_is
     (c.remove.ensures.removed b there.records holds here) in
     removed-changes c.args.self.now b tree is c.args.path.now names c.in_ok-names.ensures
     c.if-is_empty.ensures
-    kind.File place.directory place.name.now c.get.result there.records c.remove.result
+    kind.File place.directory place.name.now found.inode there.records c.remove.result
     (current_of c.remove.new.self)
     there.place there.is.0 removed
 
@@ -144,7 +144,7 @@ invariant_of-self g c =
     let there =
     taken-from held asked.1 c.args.self.now.names is.sound is.stands
     (parts_of names) place.directory place.name.now
-    place.link found.inode c.get.result found.field-0-1 kind.File
-    (c.in-Ok.ensures held (c.view.ensures b asked.2 is.sound)) found.is c.get.ensures
+    place.link found.inode found.inode found.field-0-1 kind.File
+    (c.in-Ok.ensures held (c.view.ensures b asked.2 is.sound)) found.is refl
     (rw found.is at found.field-0-1-is) in
     c.remove.ensures.orderly c.self.invariant there.numbers.0 there.numbers.1

@@ -1,4 +1,4 @@
-use Rattle.std.proofs.Common.{rules, ◌∙◌}
+use Rattle.std.proofs.Common.{rules, refl, ◌∙◌}
 use Rattle.nl_tree.specs.Overlays.{HasName, IsDirectoryOf, holding_now, over_changed}
 use Rattle.nl_tree.specs.Facts.Places.{added}
 use Rattle.std.proofs.lemmas.Result.{IfOk-from_err}
@@ -25,11 +25,11 @@ returns-clause-added g c = λ b all holds there.
     c.in_ok-reserve_name.ensures.place all (c.in_ok-open_directory.ensures.open b all holds is) in
     added old (holding_now c.reserve_name.new.self b) (holding_now c.link.new.self b)
     (holding_now c.show.new.self b)
-    (λ i. over_changed c.empty.result (b i)) c.args.dir c.args.inode c.new.result c.args.name.now c.args.kind
+    (λ i. over_changed c.empty.result (b i)) c.args.dir c.args.inode c.args.inode c.args.name.now c.args.kind
     all
     (λ i. c.in_ok-reserve_name.ensures.still b i ∙ c.in_ok-open_directory.ensures.still b i
     ∙ c.in_ok-reserve.ensures.still b i)
-    (c.link.ensures.shown all has b) c.new.ensures (c.show.ensures.shown b) (λ i. c.empty.ensures (b i))
+    (c.link.ensures.shown all has b) refl (c.show.ensures.shown b) (λ i. c.empty.ensures (b i))
 
 pub returns-clause-orderly : goal.returns-clause-orderly
 returns-clause-orderly g c = λ is dir inode.

@@ -7,6 +7,7 @@ use Rattle.nl_tree.specs.declared.overlay.Slot.{Slot}
 use Rattle.nl_tree.specs.Overlays.{over_if_slot, slot_shows}
 use Rattle.nl_tree.specs.Shown.{if_true, key_alone, pair, shown_entries}
 use Rattle.nl_tree.proofs.KeptPlaces.{place_inserted}
+use Rattle.nl_tree.proofs.WrittenSlots.{inserted_orderly, inserted_others, inserted_still}
 use Rattle.nl_tree.proofs.overlay.Overlay.hide.Goals as goal
 
 pub returns-in_err-insert-clause-orderly : goal.returns-in_err-insert-clause-orderly
@@ -67,3 +68,19 @@ returns-clause-refused c = tt
 
 pub returns-clause-place : goal.returns-clause-place
 returns-clause-place c = c.in_ok-insert.ensures.updates.1
+
+pub returns-clause-orderly : goal.returns-clause-orderly
+returns-clause-orderly c = λ is number pages.
+    inserted_orderly c.args.self.now.changed c.insert.new.self c.args.inode
+    (record { live = false; what = c.args.what }) c.in_ok-insert.ensures.updates c.args.self.now refl
+    c.in_ok-insert.ensures.ordered number pages is
+
+pub returns-clause-still : goal.returns-clause-still
+returns-clause-still c =
+    inserted_still c.args.self.now.changed c.insert.new.self c.args.inode
+    (record { live = false; what = c.args.what }) c.in_ok-insert.ensures.updates refl c.requires
+
+pub returns-clause-others : goal.returns-clause-others
+returns-clause-others c =
+    inserted_others c.args.self.now.changed c.insert.new.self c.args.inode
+    (record { live = false; what = c.args.what }) c.in_ok-insert.ensures.updates

@@ -1,14 +1,16 @@
-use Rattle.std.proofs.Common.{ℕ, List, false, refl, sym, ap, subst, ◌∙◌, IsSome, nat_cmp}
+use Rattle.std.proofs.Common.{◌≡◌, ℕ, List, false, refl, sym, ap, subst, ◌∙◌, IsSome, nat_cmp, arith}
 use Rattle.std.specs.BTreeMap.{is_at}
 use Rattle.std.specs.Map.{lookup}
 use Rattle.std.specs.Option.{is_some}
+use Rattle.std.proofs.lemmas.Grind.{common_steps}
 use Rattle.nl_tree.specs.declared.overlay.Changed.TheVariants.{Gone}
 use Rattle.std.proofs.lemmas.Result.{IfOk-from_err}
 use Rattle.nl_tree.specs.Became.{Current}
 use Rattle.nl_tree.specs.declared.overlay.Slot.{Slot}
-use Rattle.nl_tree.specs.Overlays.{over_if_slot, slot_shows}
+use Rattle.nl_tree.specs.Overlays.{is_shown, over_if_slot, slot_shows}
 use Rattle.nl_tree.specs.Shown.{if_true, key_alone, pair, shown_entries}
 use Rattle.nl_tree.proofs.KeptPlaces.{place_inserted}
+use Rattle.nl_tree.proofs.WrittenSlots.{inserted_orderly, inserted_still}
 use Rattle.nl_tree.proofs.overlay.Overlay.reserve.Goals as goal
 
 pub returns-else-is_none-clause-orderly : goal.returns-else-is_none-clause-orderly
@@ -83,3 +85,16 @@ returns-in_ok-insert-clause-refused c = tt
 
 pub returns-in_ok-insert-clause-place : goal.returns-in_ok-insert-clause-place
 returns-in_ok-insert-clause-place c = ap is_some c.in_ok-insert.ensures.updates.1
+
+pub returns-in_ok-insert-clause-orderly : goal.returns-in_ok-insert-clause-orderly
+returns-in_ok-insert-clause-orderly c = λ is number.
+    inserted_orderly c.args.self.now.changed c.insert.new.self c.args.inode
+    (record { live = false; what = Gone }) c.in_ok-insert.ensures.updates c.args.self.now refl
+    c.in_ok-insert.ensures.ordered number (λ file is_file. absurd cc) is
+
+pub returns-in_ok-insert-clause-still : goal.returns-in_ok-insert-clause-still
+returns-in_ok-insert-clause-still c =
+    let none : is_shown (lookup (is_at (nat_cmp c.args.inode)) c.args.self.now.changed.entries) ≡ false =
+    grind (arith, common_steps) in
+    inserted_still c.args.self.now.changed c.insert.new.self c.args.inode
+    (record { live = false; what = Gone }) c.in_ok-insert.ensures.updates refl none

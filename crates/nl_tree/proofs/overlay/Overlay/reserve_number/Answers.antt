@@ -1,8 +1,10 @@
-use Rattle.std.proofs.Common.{ℕ, Bool, List, refl, ap, nat_cmp}
+use Rattle.std.proofs.Common.{ℕ, Bool, List, refl, ap, nat_cmp, ◌∙◌}
 use Rattle.std.specs.BTreeMap.{is_at}
 use Rattle.std.specs.Map.{lookup}
 use Rattle.std.specs.Option.{is_some}
+use Rattle.std.proofs.lemmas.Bool.{ne_eqb}
 use Rattle.std.proofs.lemmas.Result.{IfOk-from_err}
+use Rattle.nl_tree.specs.Facts.Places.{tied}
 use Rattle.nl_tree.specs.Became.{Current}
 use Rattle.nl_tree.specs.Overlays.{became_in}
 use Rattle.nl_tree.specs.Shown.{if_true, key_alone, shown_entries}
@@ -85,3 +87,7 @@ returns-in_ok-insert-clause-place c = ap is_some c.in_ok-insert.ensures.updates.
 
 pub returns-in_ok-insert-clause-refused : goal.returns-in_ok-insert-clause-refused
 returns-in_ok-insert-clause-refused c = tt
+
+pub returns-in_ok-insert-clause-freed : goal.returns-in_ok-insert-clause-freed
+returns-in_ok-insert-clause-freed c = λ n ne.
+    c.in_ok-insert.ensures.updates.2 n (tied c.args.inode n ∙ ne_eqb n c.args.inode ne)

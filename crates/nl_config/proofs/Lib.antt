@@ -1,0 +1,3 @@
+mod Comments
+mod ConfigurationLaws
+mod Numerals

@@ -1,0 +1,11 @@
+use Rattle.nl_publish.proofs.Keeping.{admits, forks, merges}
+use Rattle.nl_publish.proofs.press.NamedWriter.seat.Goals as goal
+
+pub reader-requires : goal.reader-requires
+reader-requires c = admits
+
+pub tell-requires : goal.tell-requires
+tell-requires c = forks _ _
+
+pub learn-requires-clause-rule : goal.learn-requires-clause-rule
+learn-requires-clause-rule c = merges _ _ _ _

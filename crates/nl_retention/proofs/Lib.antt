@@ -1,0 +1,4 @@
+pub mod Kept
+pub mod Last
+pub mod Going
+pub mod Order

@@ -1,0 +1,2 @@
+pub mod Retention
+pub mod Counts

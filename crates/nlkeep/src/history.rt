@@ -1,0 +1,125 @@
+//! `history` and `find`: where in the history of a volume something stood.
+use crate::asking::{Clock, Outcome};
+use crate::checkpoints::is_minor;
+use crate::comparing::{Pair, differs_below};
+use crate::faults::{Fault, fault_at};
+use crate::moments::shown;
+use crate::parts::path_said;
+use crate::printing::Printer;
+use crate::views::View;
+use nl_folders::Name;
+use nl_types::{CheckpointNumber, Row};
+use std::alloc::Global;
+use std::io::Write;
+
+/// Whether what stands at a path of a checkpoint is other than at the one before, or the first thing there.
+fn is_changed(
+    alloc: Global,
+    view: &View<'_>,
+    before: Option<CheckpointNumber>,
+    number: CheckpointNumber,
+    path: &[Name],
+) -> Result<bool, Fault> {
+    match before {
+        Some(old) => differs_below(alloc, view, Pair { old, new: number }, path),
+        None => {
+            let shown = view.shown(alloc, number)?;
+            let seen = view.seen(alloc, number, shown.tree.as_slice(), path)?;
+            Ok(seen.is_some())
+        }
+    }
+}
+
+/// Tells what stands at a path of a checkpoint.
+fn tell_standing<W: Write>(
+    alloc: Global,
+    view: &View<'_>,
+    row: &Row,
+    path: &[Name],
+    clock: Clock<'_>,
+    printer: &mut Printer<W>,
+) -> Result<(), Fault> {
+    let tree = view.shown(alloc, row.number)?.tree;
+    let seen = view.seen(alloc, row.number, tree.as_slice(), path)?;
+    let (number, date) = (row.number.get(), shown(alloc, clock.zone, row.stamp)?);
+    write!(printer.out, "{number:>8}  {date}  ")?;
+    printer.standing(seen)?;
+    Ok(())
+}
+
+/// Tells each kept checkpoint whose tree differs at or below a path from that of the one before, the oldest
+/// first, with its date and what stands there. Minor ones, which no person made, are passed over.
+pub fn history<W: Write>(
+    alloc: Global,
+    view: &View<'_>,
+    word: &str,
+    clock: Clock<'_>,
+    printer: &mut Printer<W>,
+) -> Result<Outcome, Fault> {
+    let path = path_said(alloc, word)?;
+    let mut before = None;
+    let mut was_there = false;
+    for row in view.rows.as_slice() {
+        if !is_minor(row) {
+            if is_changed(alloc, view, before, row.number, path.as_slice())? {
+                tell_standing(alloc, view, row, path.as_slice(), clock, printer)?;
+                was_there = true;
+            }
+            before = Some(row.number);
+        }
+    }
+    if was_there {
+        Ok(Outcome::Done)
+    } else {
+        Err(fault_at(alloc, word, "nothing was ever there"))
+    }
+}
+
+/// Whether the last name of a path is this one.
+fn is_named(path: &[Name], name: &str) -> bool {
+    match path {
+        [.., last] => last.as_slice() == name.as_bytes(),
+        [] => false,
+    }
+}
+
+/// Tells what a checkpoint has under a name, wherever that is, a line each. Answers how many they are.
+fn find_there<W: Write>(
+    alloc: Global,
+    view: &View<'_>,
+    number: CheckpointNumber,
+    name: &str,
+    printer: &mut Printer<W>,
+) -> Result<u64, Fault> {
+    let shown = view.shown(alloc, number)?;
+    let mut count: u64 = 0;
+    for (path, entry) in shown.tree.as_slice() {
+        if is_named(path.as_slice(), name) {
+            let seen = view.seen_entry(alloc, number, path.as_slice(), entry)?;
+            write!(printer.out, "{:>8}  ", number.get())?;
+            printer.entry(path.as_slice(), seen)?;
+            count = count.saturating_add(1);
+        }
+    }
+    Ok(count)
+}
+
+/// Tells what each kept checkpoint has under a name, the oldest first.
+pub fn find<W: Write>(
+    alloc: Global,
+    view: &View<'_>,
+    name: &str,
+    printer: &mut Printer<W>,
+) -> Result<Outcome, Fault> {
+    let mut count: u64 = 0;
+    for row in view.rows.as_slice() {
+        if !is_minor(row) {
+            count = count.saturating_add(find_there(alloc, view, row.number, name, printer)?);
+        }
+    }
+    if count > 0 {
+        Ok(Outcome::Done)
+    } else {
+        Err(fault_at(alloc, name, "no kept checkpoint has such a name"))
+    }
+}

@@ -1,0 +1,41 @@
+# Completion for bash of nlkeep and nlvol: source it, or lay it in /etc/bash_completion.d.
+
+_nlkeep_options() {
+    case $1 in
+    init) echo --size --at ;;
+    backup) echo -n --plain --exclude --max --at ;;
+    restore) echo --path --owners ;;
+    list) echo -a -l ;;
+    forget | revert | untar) echo --max --at ;;
+    prune) echo --last --hourly --daily --weekly --monthly --yearly -n --at ;;
+    esac
+}
+
+_nlkeep() {
+    local word=${COMP_WORDS[COMP_CWORD]} command=${COMP_WORDS[1]}
+    local commands='init backup restore list ls tree du cat diff history find revert tar untar forget prune'
+    COMPREPLY=()
+    if [ "$COMP_CWORD" = 1 ]; then
+        mapfile -t COMPREPLY < <(compgen -W "$commands --help --version" -- "$word")
+    elif [[ $word == -* ]]; then
+        mapfile -t COMPREPLY < <(compgen -W "$(_nlkeep_options "$command") --help" -- "$word")
+    elif [ "$COMP_CWORD" = 3 ] && [[ $command =~ ^(restore|ls|tree|du|cat|diff|revert|tar)$ ]]; then
+        mapfile -t COMPREPLY < <(compgen -W "latest yesterday $(nlkeep list "${COMP_WORDS[2]}" 2> /dev/null |
+            awk '{ print $1 }')" -- "$word")
+    else
+        mapfile -t COMPREPLY < <(compgen -f -- "$word")
+    fi
+}
+
+_nlvol() {
+    local word=${COMP_WORDS[COMP_CWORD]}
+    COMPREPLY=()
+    if [[ $word == -* ]]; then
+        mapfile -t COMPREPLY < <(compgen -W '--segments --blocks --conf --open --save --help --version' -- "$word")
+    else
+        mapfile -t COMPREPLY < <(compgen -f -- "$word")
+    fi
+}
+
+complete -o filenames -F _nlkeep nlkeep
+complete -o filenames -F _nlvol nlvol
