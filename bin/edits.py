@@ -7,11 +7,12 @@ COPY is a copy of the repository that `rt ci` proves meanwhile, and EDITS has a 
 crate. LOG is what `rt ci` prints, and ENDED a file that is there once it has ended. The crates are tried in
 the order given, on processors that nothing else uses, each once the crates below it are proved. No batch
 begins after the moment UNTIL, in seconds since 1970. FOLDER gets a file refused.CRATE for each crate, with
-the edits that were refused, and left.CRATE, with those that are to be tried one by one: a batch does not show
-that they are refused, or they change no function.
+the edits that were refused, and passed.CRATE, with those that were not. What is in neither was not tried.
 
 An edit is refused in a batch where its own function is not proved and a goal of that function is open. A
-function that calls it is then not proved either, and the check says so in another way.
+function that calls it is then not proved either, and the check says so in another way. An edit of which no batch
+shows this, or that changes no function, is tried alone, by a check of the whole crate: as `rt ci` would try it,
+which takes no names in CI.
 """
 import os
 import re
@@ -31,9 +32,12 @@ from budget import below
 MEMORY = 3_000_000_000
 # How often an edit is tried in batches. The second time those of functions that it calls are mostly done.
 TRIES = 2
-# What a check says where a proof names what an edit took away, or rests on such a proof: it tells nothing of
-# the contract.
-NAMES = re.compile(r"has no field|is not in scope|has no `|was not admitted|which was rejected")
+# What a check says where a proof names what an edit took away, or rests on such a proof, or where a text cannot
+# be read: it tells nothing of the contract.
+NAMES = re.compile(
+    r"has no field|is not in scope|has no `|was not admitted|which was rejected"
+    r"|is no name|operand is missing|expected the end|cannot continue"
+)
 # What a check notes of a goal that is open.
 GOAL = re.compile(r"it is not proved that|found no proof")
 # A line that stands behind a function, or begins another item.
@@ -136,7 +140,7 @@ class Crate:
         self.deps = line.split("#")[0].partition(":")[2].split()
         self.below = []
         self.add_below(name, named)
-        self.left, self.refused = [], []
+        self.refused, self.passed = [], []
 
     def add_below(self, name, named):
         for dep in named[name]:
@@ -168,6 +172,7 @@ class Checked:
     def __init__(self, name, text):
         self.name, self.text = name, text
         self.has_ended = bool(re.search(r"^(only=\d|logic=)", text, re.M))
+        self.is_refused = bool(re.search(r"^logic=not-proved", text, re.M))
         self.lines = re.findall(r"^fn (\S+): (.*)$", text, re.M)
 
     def open_goal(self, function):
@@ -186,6 +191,11 @@ class Checked:
         folder = "/".join([*folders, rf"\+?{last}"])
         errors = re.findall(rf"^(?:\./)?proofs/{folder}/\S+:\d+:\d+: error: (.*)$", self.text, re.M)
         return next((it for it in errors if not NAMES.search(it)), None)
+
+    def first_said(self):
+        """Returns what a check of the whole crate says first that tells of a contract, or None."""
+        told = re.findall(r"^(?:note: )?\S+:\d+:\d+: (.*)$", self.text, re.M)
+        return next((it for it in told if not NAMES.search(it)), None)
 
 
 class Processors:
@@ -229,9 +239,16 @@ class Trial:
         self.crate = crate
         names = sorted(it for it in os.listdir(crate.edits) if it.endswith(".edit"))
         edits = [Edit(crate, it) for it in names]
-        crate.left = [it for it in edits if not it.functions]
+        self.alone = [it for it in edits if not it.functions]
         self.waiting = [it for it in edits if it.functions]
         self.split, self.kept = [], tempfile.mkdtemp(prefix="edits-kept-")
+
+    def go_on(self):
+        """Tries the next batch, and behind all of them the next edit that is to be tried alone."""
+        if self.waiting or self.split:
+            self.try_batch(self.next_batch())
+        else:
+            self.try_alone(self.alone.pop())
 
     def next_batch(self):
         """Takes edits of distinct functions out of those that wait."""
@@ -260,15 +277,30 @@ class Trial:
             edit.tries += 1
             goal = next((it for it in map(checked.open_goal, sorted(edit.functions)) if it), None)
             if goal:
-                self.crate.refused.append(edit)
-                label = f"{self.crate.name}/{edit.file}"
-                print(f"gate: must-fail {label}: refused, as it must be: {goal[:160]}", flush=True)
+                self.refuse(edit, goal)
             elif edit.tries < TRIES and len(batch) > 1:
                 self.waiting.append(edit)
             else:
-                self.crate.left.append(edit)
+                self.alone.append(edit)
 
-    def check(self, batch):
+    def try_alone(self, edit):
+        """Checks the whole crate with this edit."""
+        checked = Checked(self.crate.name, self.check([edit], is_whole=True))
+        said = checked.first_said()
+        if checked.is_refused and said:
+            self.refuse(edit, said)
+        else:
+            self.crate.passed.append(edit)
+            why = "the crate is still proved" if checked.has_ended else "it cannot be read, or its check did not end"
+            if checked.is_refused:
+                why = "only proofs that name what is gone tell it"
+            print(f"gate: must-fail {self.crate.name}/{edit.file}: NOT REFUSED: {why}", flush=True)
+
+    def refuse(self, edit, told):
+        self.crate.refused.append(edit)
+        print(f"gate: must-fail {self.crate.name}/{edit.file}: refused, as it must be: {told[:160]}", flush=True)
+
+    def check(self, batch, is_whole=False):
         room = tempfile.mkdtemp(prefix="rt-edit-")
         try:
             for part in ("src", "specs", "proofs"):
@@ -277,7 +309,7 @@ class Trial:
             for edit in batch:
                 edit.apply(room)
             only = [word for edit in batch for it in sorted(edit.functions) for word in ("--only", it.name)]
-            words = ["check", *self.crate.words(), "--incremental", self.kept, *only]
+            words = ["check", *self.crate.words(), "--incremental", self.kept, *([] if is_whole else only)]
             return subprocess.run(
                 [f"{KIT}/bin/rattle", *words],
                 cwd=room,
@@ -292,11 +324,11 @@ class Trial:
             shutil.rmtree(room, ignore_errors=True)
 
     def is_done(self):
-        return not self.waiting and not self.split
+        return not self.waiting and not self.split and not self.alone
 
     def end(self, folder):
         shutil.rmtree(self.kept, ignore_errors=True)
-        for name, edits in (("refused", self.crate.refused), ("left", self.crate.left)):
+        for name, edits in (("refused", self.crate.refused), ("passed", self.crate.passed)):
             with open(f"{folder}/{name}.{self.crate.name}", "w", encoding="utf-8") as it:
                 it.writelines(f"{edit.file}\n" for edit in edits)
 
@@ -332,7 +364,7 @@ def main():
         while trial := next_trial():
             try:
                 while not trial.is_done() and time.time() < float(until):
-                    trial.try_batch(trial.next_batch())
+                    trial.go_on()
             finally:
                 free.give_back()
                 trial.end(folder)

@@ -39,7 +39,7 @@ impl Turn {
         }
     }
 
-    /// Whether it has failed.
+    /// How often it has failed: once or never.
     pub fn failures(self) -> u64
         ensures { result ≡ turned self }
     {

@@ -68,7 +68,7 @@ impl Summary {
         self.stamp
     }
 
-    /// The checkpoint that was being made, or the latest one where blocks were moved.
+    /// The checkpoint that was being made; where blocks were moved, the minor one that the move makes.
     pub fn checkpoint(&self) -> CheckpointNumber
         ensures { result ≡ self.now.checkpoint }
     {

@@ -387,9 +387,9 @@ impl<J: Volumes, E: Enters> Port<J, E> {
 
     /// Reads the bytes of the file at a path of the mount's tree, as `nl_tree::read_into` does. Where the
     /// port keeps pages, it looks for the file's there, and brings those of the bytes that it answers to the
-    /// front, ascending; it puts none. It takes no memory, and never waits. All bytes are read in one state,
-    /// and no other one is published until they are: so a large read holds up publications, and with them
-    /// each call that changes the volume. `FileAt::read_parts` doesn't. Refused by `BadMount` where the
+    /// front, ascending; it puts none. It takes no memory, and never waits. All bytes are read in one state.
+    /// At most one other is published until they are, and a further one waits: so a large read holds up
+    /// publications, and with them each call that changes the volume. `FileAt::read_parts` doesn't. Refused by `BadMount` where the
     /// state that it enters lacks the mount, where it is given none or one that is older than what it has
     /// seen, and where the mount is another volume's; the path isn't looked at then.
     pub fn read_into(

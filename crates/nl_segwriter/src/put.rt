@@ -1,4 +1,4 @@
-//! DevicePages put on the device, one after another.
+//! Pages put on the device, one after another.
 ghost use Rattle.std.specs.Prelude.{◌≡◌, ◌+◌, ◌*◌, ◌<◌, ◌≤◌, ℕ, List, Some, length, OnOk, OnErr, IfErr};
 ghost use Rattle.nl_types.specs.Plain.Limits as limits;
 ghost use Rattle.nl_device.specs.Failures.{CountsWrites, FailsToWrite};

@@ -111,8 +111,8 @@ pub trait Vstore: VRead {
         ensures { result ≡ payload_count_in (store self.now) segment };
 
     /// Moves the pages of numbers out of a segment that takes no more logs, in their order: each is read from
-    /// the device and written elsewhere. The checkpoint is the latest one, and `now` the moment in whole
-    /// seconds: both go into the logs' summaries.
+    /// the device and written elsewhere. The checkpoint is the minor one that the move makes, and `now` the
+    /// moment in whole seconds: both go into the logs' summaries.
     ///
     /// Refused by `NoSpace` where no list of logs fits, by `Memory`, and by `Fault` where the device failed,
     /// as it always is where a write did.
