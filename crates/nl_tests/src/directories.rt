@@ -1,5 +1,4 @@
-//! A block of a directory byte by byte, as the format says. That what is packed is read again, and found, holds for
-//! all records.
+//! A block of a directory byte by byte, as the format says.
 ghost use Rattle.std.specs.Prelude.{IsTrue};
 ghost use Rattle.nl_dirs.specs.Records.{AllHaveSpelling, RecordHasSpelling};
 

@@ -1,5 +1,4 @@
-//! Blocks of the log byte by byte, as the format says: the summary block, nodes and inodes. That what is written is
-//! read again holds for all values.
+//! Blocks of the log byte by byte, as the format says: the summary block, nodes and inodes.
 use nl_layout::{INODE_SIZE, Inode, InodeEntry, InodeKind, Level, Node, Root, Summary, Tag};
 use nl_types::{BLOCK_SIZE, CheckpointNumber, InodeNumber, VirtualNumber};
 
