@@ -4,8 +4,8 @@ ghost use Rattle.std.specs.Prelude.{◌≡◌};
 
 use crate::backup::{Volume, shared};
 use nl_mounts::{
-    CheckpointNumber, Event, Items, ListOptions, Mode, Mount, Opened, Port, Row, Standing, VolError,
-    Volumes,
+    CheckpointNumber, Event, Items, ListOptions, Mode, Mount, Opened, Port, Row, Standing,
+    VolError, Volumes,
 };
 use std::alloc::Global;
 use std::marker::Brand;

@@ -1,6 +1,4 @@
 //! The list of a file's blocks, which nothing else asks for: with ample memory it isn't refused.
-ghost use Rattle.std.specs.Prelude.{◌≤◌};
-
 use nl_blocktree::{Met, blocks, walk};
 use nl_layout::{Level, Root};
 use nl_types::{BLOCK_SIZE, Block, Page, Period, VirtualNumber, VolError};
