@@ -101,13 +101,19 @@ fn mount_told<J: Volumes, R: Wait>(
     volume.mount(rt, port, number(5))
 }
 
+/// Whether a port reads three bytes of the file, once it is open and by its path.
+fn reads<J: Volumes>(port: &mut Port<J>, mount: &Mount<J>, into: &mut [u8]) -> bool {
+    let read = match port.open(mount, b"/g") {
+        Ok(file) => file.read_into(port, 1, into) == Ok(3),
+        Err(_) => false,
+    };
+    read && port.read_into(mount, b"/g", 1, into) == Ok(3)
+}
+
 /// Whether a port finds the file as it was written.
 fn finds<J: Volumes>(port: &mut Port<J>, mount: &Mount<J>) -> bool {
     let mut into = [b'?'; 4];
-    let read = match port.open(mount, b"/g") {
-        Ok(file) => file.read_into(port, 1, &mut into) == Ok(3),
-        Err(_) => false,
-    };
+    let read = reads(port, mount, &mut into);
     read && into == [b'h', b'i', b'!', b'?'] && port.standing(mount) == Standing::Mounted
 }
 
