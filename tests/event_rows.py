@@ -2,7 +2,8 @@
 and compare them by this.
 
 A row begins with a line `volume SEGMENTS BLOCKS`, which makes a new volume; behind that may stand `put N`,
-`get N` or `growth N`, for a call on its device that fails. The other lines are `EVENT = REPLY` or `QUESTION
+`get N` or `growth N`, for a call on its device that fails, and `torn` behind `put N`, if zeros are in the place of
+the old page then. The other lines are `EVENT = REPLY` or `QUESTION
 = REPLY`, and `#` begins a comment. `nl_trials rows` does each event on a pen and on a shared volume with
 one port. Where these two differ, in a reply or in the end, it prints a line that is never due. A call that
 is refused by `Memory` is done again; a line that is never due stands where something was changed by the
@@ -69,7 +70,7 @@ FORMS = [
     'checkpoints|segments',
 ]
 LINE = re.compile('|'.join(FORMS))
-VOLUME = re.compile(f'volume{NUMBER}{NUMBER}( (put|get|growth){NUMBER})?')
+VOLUME = re.compile(f'volume{NUMBER}{NUMBER}( put{NUMBER}( torn)?| (get|growth){NUMBER})?')
 RANGE = re.compile(r'{(\d+)\.\.(\d+)(\.\.(\d+))?}')
 
 

@@ -1,412 +1,286 @@
-//! Many reads at once, each port on a thread of its own; and mounts and ports of another volume.
+//! Many reads of a mount by two ports at once, beside a writer and a cleaner: each of them goes on while the
+//! others do.
 ghost use Rattle.std.specs.Prelude.{◌≡◌};
 
-use crate::backup::{Volume, give_back, shared};
-use crate::files::mount_files;
+use crate::backup::{Volume, give_back, keep_file, shared};
+use nl_cleaner::Job;
 use nl_mounts::{
-    Event, Gate, Items, JobAnswer, Mount, Opened, Port, ReadJob, Segment, VolError, Volumes,
-    read_many,
+    Amount, Config, Gate, Items, JobAnswer, Moment, Mount, Opened, Port, ReadJob, VolError,
+    Volumes, read_many,
 };
 use std::alloc::Global;
 use std::marker::Brand;
-use std::mem::swap;
 use std::sync::Wait;
 use std::sync::atomic::{AtomicBool, AtomicU64, Ordering};
 use std::test::Fail;
 use std::thread::{Threads, join};
 
-// ---- jobs
+/// How many checkpoints the writer makes.
+const CHECKPOINTS: u64 = 200;
 
-/// A job, with what is due.
-type Due<'a> = (&'a [u8], u64, u64, Result<&'a [u8], VolError>);
+/// How many of them are to be answered before the first job is done.
+const AWAITED: u64 = 100;
 
-/// Refusals stand in their places, and a path may come twice.
-const ALL_KINDS: &[Due<'static>] = &[
-    (b"/one", 0, 9, Ok(b"1")),
-    (b"/nothing", 0, 9, Err(VolError::NotFound)),
-    (b"/block", 1020, 9, Ok(b"2222")),
-    (b"/", 0, 9, Err(VolError::IsDir)),
-    (b"/more", 1024, 9, Ok(b"3")),
-    (b"/one/x", 0, 9, Err(VolError::NotDir)),
-    (b"/long", 299_998, 9, Ok(b"44")),
-    (b"one", 0, 9, Err(VolError::BadPath)),
-    (b"/one", 1, 9, Ok(b"")),
-    (b"/one", 0, 9, Ok(b"1")),
-];
+const JOBS: usize = 8000;
 
-fn all_kinds() -> &'static [Due<'static>] {
-    ALL_KINDS
+/// How many of them each of the two ports does.
+const JOBS_OF_EACH: u64 = 4000;
+
+/// How often what others do is waited for at most.
+const TURNS: u64 = 2_000_000_000;
+
+// ---- how far all are
+
+/// How far all are. As a gate it holds the first job back until the awaited checkpoint is answered, and all
+/// jobs of the other port have ended, which are the odd ones.
+#[derive(Drop)]
+struct Progress {
+    answered: AtomicU64,
+    has_ended: AtomicBool,
+    even_begun: AtomicU64,
+    odd_ended: AtomicU64,
+    /// The first job was held back so, and no other one of its port began meanwhile.
+    was_met: AtomicBool,
 }
 
-/// Two jobs for two ports.
-const TWO: &[Due<'static>] = &[(b"/one", 0, 9, Ok(b"1")), (b"/long", 0, 2, Ok(b"44"))];
+impl Progress {
+    fn new() -> Progress {
+        Progress {
+            answered: AtomicU64::new(0),
+            has_ended: AtomicBool::new(false),
+            even_begun: AtomicU64::new(0),
+            odd_ended: AtomicU64::new(0),
+            was_met: AtomicBool::new(false),
+        }
+    }
 
-fn two() -> &'static [Due<'static>] {
-    TWO
+    fn has_ended(&self) -> bool {
+        self.has_ended.load(Ordering::SeqCst)
+    }
+
+    /// Whether what the first job waits for has come.
+    fn has_come(&self) -> bool {
+        self.answered.load(Ordering::SeqCst) >= AWAITED
+            && self.odd_ended.load(Ordering::SeqCst) == JOBS_OF_EACH
+    }
+
+    fn wait(&self) {
+        for _ in 0..TURNS {
+            if self.has_come() {
+                let is_alone = self.even_begun.load(Ordering::SeqCst) == 1;
+                self.was_met.store(is_alone, Ordering::SeqCst);
+                return;
+            }
+        }
+    }
+
+    /// Whether the first job was held back so, and all of its port have begun by now.
+    fn was_met(&self) -> bool {
+        self.was_met.load(Ordering::SeqCst)
+            && self.even_begun.load(Ordering::SeqCst) == JOBS_OF_EACH
+    }
 }
 
-fn job_of(alloc: Global, due: &Due<'_>) -> Result<ReadJob, VolError> {
-    Ok(ReadJob {
-        path: Items::from_slice(alloc, due.0)?,
-        offset: due.1,
-        len: due.2,
-    })
+impl Gate for Progress {
+    fn before(&self, job: usize) {
+        if job % 2 == 0 {
+            self.even_begun.fetch_add(1, Ordering::SeqCst);
+        }
+        if job == 0 {
+            self.wait();
+        }
+    }
+
+    fn after(&self, job: usize) {
+        if job % 2 == 1 {
+            self.odd_ended.fetch_add(1, Ordering::SeqCst);
+        }
+    }
 }
 
-fn jobs_of(alloc: Global, all: &[Due<'_>]) -> Result<Vec<ReadJob>, VolError> {
-    let mut jobs = Vec::new(alloc);
-    for due in all {
-        jobs.push(job_of(alloc, due)?)?;
+// ---- the writer
+
+/// Writes one byte over another, with a checkpoint behind each. Whether their numbers ascend, with those of
+/// minor ones between.
+fn writes<J: Volumes, R: Wait>(
+    rt: &R,
+    alloc: Global,
+    volume: &Volume<J>,
+    progress: &Progress,
+) -> Result<bool, VolError> {
+    let mut last = 0;
+    for turn in 0..CHECKPOINTS {
+        volume.write(rt, alloc, b"/f", 0, &[turn as u8])?;
+        let made = volume.checkpoint(rt, turn)?.get();
+        if made <= last {
+            return Ok(false);
+        }
+        last = made;
+        progress.answered.store(turn + 1, Ordering::SeqCst);
+    }
+    Ok(true)
+}
+
+fn writes_to_the_end<J: Volumes, R: Wait>(
+    rt: &R,
+    alloc: Global,
+    volume: &Volume<J>,
+    progress: &Progress,
+) -> bool {
+    let written = writes(rt, alloc, volume, progress);
+    progress.has_ended.store(true, Ordering::SeqCst);
+    written == Ok(true)
+}
+
+// ---- the cleaner
+
+/// Nothing is protected, and all segments are cleaned.
+fn config() -> Config {
+    Config {
+        protection_period: 0,
+        min_clean_segments: Amount::Count(0),
+        max_clean_segments: Amount::Percent(100),
+        nsegments_per_clean: 8,
+        min_reclaimable_blocks: Amount::Count(0),
+        ..Config::standard()
+    }
+}
+
+/// More steps than a round has: an expiry, and of eight segments of 64 blocks each three moves at most and a
+/// retirement.
+const STEPS: usize = 1000;
+
+/// Does a round, and says whether it came to its end.
+fn cleans<J: Volumes, R: Wait>(
+    rt: &R,
+    alloc: Global,
+    volume: &Volume<J>,
+) -> Result<bool, VolError> {
+    let mut round: Job = volume.plan(rt, alloc, &config(), Moment::new(0))?;
+    for _ in 0..STEPS {
+        if volume.clean_step(rt, &mut round).is_none() {
+            return Ok(true);
+        }
+    }
+    Ok(false)
+}
+
+/// Does one round after another, and the last one behind the writer's end.
+fn cleans_to_the_end<J: Volumes, R: Wait>(
+    rt: &R,
+    alloc: Global,
+    volume: &Volume<J>,
+    progress: &Progress,
+) -> bool {
+    for _ in 0..TURNS {
+        let is_last = progress.has_ended();
+        if cleans(rt, alloc, volume) != Ok(true) {
+            return false;
+        }
+        if is_last {
+            return true;
+        }
+    }
+    false
+}
+
+// ---- the readers
+
+fn jobs(alloc: Global) -> Result<Vec<ReadJob>, VolError> {
+    let mut jobs = Vec::with_capacity(alloc, JOBS)?;
+    for _ in 0..JOBS {
+        jobs.push(ReadJob {
+            path: Items::from_slice(alloc, b"/f")?,
+            offset: 0,
+            len: 9,
+        })?;
     }
     Ok(jobs)
 }
 
-fn is_due(answer: &JobAnswer, due: &Due<'_>) -> bool {
-    match (answer, due.3) {
-        (Ok(bytes), Ok(wanted)) => bytes.as_slice() == wanted,
-        (Err(refusal), Err(wanted)) => *refusal == wanted,
-        _ => false,
-    }
+fn is_first_byte(answer: &JobAnswer) -> bool {
+    matches!(answer, Ok(bytes) if bytes.as_slice() == b"A".as_slice())
 }
 
-fn are_due(answers: &[JobAnswer], all: &[Due<'_>]) -> bool {
-    for (answer, due) in answers.iter().zip(all) {
-        if !is_due(answer, due) {
-            return false;
-        }
-    }
-    answers.len() == all.len()
-}
-
-/// What the ports answer to the jobs.
-fn answers_to<J: Volumes + Send + Sync, G: Gate + Sync, R: Threads + Sync>(
+/// How many jobs are answered by the snapshot's byte.
+fn count_answered<J: Volumes + Send + Sync, R: Threads + Sync>(
     rt: &R,
     alloc: Global,
     ports: &mut [Port<J>],
     mount: &Mount<J>,
-    all: &[Due<'_>],
-    gate: &G,
-) -> Result<Vec<JobAnswer>, VolError> {
+    progress: &Progress,
+) -> Result<usize, VolError> {
     if ports.is_empty() {
-        return Err(VolError::BadRange);
+        return Ok(0);
     }
-    let jobs = jobs_of(alloc, all)?;
-    read_many(rt, alloc, ports, mount, jobs.as_slice(), gate)
+    let jobs = jobs(alloc)?;
+    let answers = read_many(rt, alloc, ports, mount, jobs.as_slice(), progress)?;
+    Ok(
+        answers
+            .iter()
+            .filter(|answer| is_first_byte(answer))
+            .count(),
+    )
 }
 
-/// Whether the ports answer the jobs as is due.
-fn answer<J: Volumes + Send + Sync, G: Gate + Sync, R: Threads + Sync>(
-    rt: &R,
-    alloc: Global,
-    ports: &mut [Port<J>],
-    mount: &Mount<J>,
-    all: &[Due<'_>],
-    gate: &G,
-) -> bool {
-    match answers_to(rt, alloc, ports, mount, all, gate) {
-        Ok(answers) => are_due(answers.as_slice(), all),
-        Err(_) => false,
-    }
-}
+// ---- all of them
 
-// ---- what stands round each job, and which port does which
-
-/// How many calls stood round each job, and whether one of them came out of turn.
-#[derive(Drop)]
-struct Counts {
-    calls: [AtomicU64; 10],
-    strayed: AtomicBool,
-}
-
-impl Counts {
-    fn new() -> Counts {
-        Counts {
-            calls: [
-                AtomicU64::new(0),
-                AtomicU64::new(0),
-                AtomicU64::new(0),
-                AtomicU64::new(0),
-                AtomicU64::new(0),
-                AtomicU64::new(0),
-                AtomicU64::new(0),
-                AtomicU64::new(0),
-                AtomicU64::new(0),
-                AtomicU64::new(0),
-            ],
-            strayed: AtomicBool::new(false),
-        }
-    }
-
-    /// Counts a call, of which so many are due before it.
-    fn count(&self, job: usize, due: u64) {
-        if job >= 10 || self.calls[job].fetch_add(1, Ordering::SeqCst) != due {
-            self.strayed.store(true, Ordering::SeqCst);
-        }
-    }
-
-    /// Whether each job began once, and ended once behind that.
-    fn are_one_each(&self) -> bool {
-        for job in 0..10 {
-            if self.calls[job].load(Ordering::SeqCst) != 2 {
-                return false;
-            }
-        }
-        !self.strayed.load(Ordering::SeqCst)
-    }
-}
-
-impl Gate for Counts {
-    fn before(&self, job: usize) {
-        self.count(job, 0);
-    }
-
-    fn after(&self, job: usize) {
-        self.count(job, 1);
-    }
-}
-
-/// Whether just the jobs of one of three ports are refused for the mount.
-fn are_refused_at(answers: &[JobAnswer], place: usize) -> bool {
-    for (job, answer) in answers.iter().enumerate() {
-        let refused = matches!(answer, Err(VolError::BadMount));
-        if refused != (job % 3 == place) {
-            return false;
-        }
-    }
-    answers.len() == 10
-}
-
-/// Whether each job is done once, and those of the port at a place by that one, which is another volume's.
-fn go_round<J: Volumes + Send + Sync, R: Threads + Sync>(
-    rt: &R,
-    alloc: Global,
-    ports: &mut [Port<J>],
-    mount: &Mount<J>,
-    place: usize,
-) -> bool {
-    let counts = Counts::new();
-    match answers_to(rt, alloc, ports, mount, all_kinds(), &counts) {
-        Ok(answers) => are_refused_at(answers.as_slice(), place) && counts.are_one_each(),
-        Err(_) => false,
-    }
-}
-
-/// The same at each place in turn.
-fn go_in_turn<J: Volumes + Send + Sync, R: Threads + Sync>(
-    rt: &R,
-    alloc: Global,
-    ports: &mut [Port<J>],
-    other: &mut Port<J>,
-    mount: &Mount<J>,
-) -> bool {
-    for place in 0..ports.len() {
-        swap(&mut ports[place], other);
-        let done = go_round(rt, alloc, ports, mount, place);
-        swap(&mut ports[place], other);
-        if !done {
-            return false;
-        }
-    }
-    ports.len() == 3
-}
-
-// ---- two jobs that meet
-
-/// Each of two jobs waits, for some turns, until the other one has begun and the volume has grown. It grows
-/// once both have begun.
-#[derive(Drop)]
-struct Meeting {
-    begun: AtomicU64,
-    grown: AtomicBool,
-    met: AtomicU64,
-}
-
-const TURNS: u64 = 2_000_000_000;
-
-impl Meeting {
-    fn new() -> Meeting {
-        Meeting {
-            begun: AtomicU64::new(0),
-            grown: AtomicBool::new(false),
-            met: AtomicU64::new(0),
-        }
-    }
-
-    /// Whether, within some turns, both jobs have begun, and the volume has grown where that is awaited.
-    fn comes(&self, awaits_growth: bool) -> bool {
-        for _ in 0..TURNS {
-            let grown = !awaits_growth || self.grown.load(Ordering::SeqCst);
-            if grown && self.begun.load(Ordering::SeqCst) == 2 {
-                return true;
-            }
-        }
-        false
-    }
-}
-
-impl Gate for Meeting {
-    fn before(&self, _job: usize) {
-        self.begun.fetch_add(1, Ordering::SeqCst);
-        if self.comes(true) {
-            self.met.fetch_add(1, Ordering::SeqCst);
-        }
-    }
-
-    fn after(&self, _job: usize) {}
-}
-
-/// Moves the blocks out of each segment, and frees it, where that can be done.
-fn move_all<J: Volumes, R: Wait>(rt: &R, volume: &Volume<J>) {
-    for index in 0..64 {
-        let segment = Segment::new(index);
-        let moving = Event::Move {
-            segment,
-            limit: 30,
-            now: 0,
-        };
-        let _moved = volume.apply(rt, &moving);
-        let _freed = volume.apply(rt, &Event::Retire(segment));
-    }
-}
-
-/// Makes the volume larger once both jobs have begun, and then moves all its blocks.
-fn grow<J: Volumes, R: Wait>(rt: &R, volume: &Volume<J>, meeting: &Meeting) -> bool {
-    let both = meeting.comes(false);
-    let grown = volume.resize(rt, 128).is_ok();
-    meeting.grown.store(true, Ordering::SeqCst);
-    move_all(rt, volume);
-    both && grown
-}
-
-/// Whether two jobs run at once, on two ports, while the volume grows and their blocks are moved.
-fn meet<J: Volumes + Send + Sync, R: Threads + Wait + Sync>(
+/// Whether each of them comes to what is due beside the others.
+fn go_side_by_side<J: Volumes + Send + Sync, R: Threads + Wait + Sync>(
     rt: &R,
     alloc: Global,
     volume: &Volume<J>,
     ports: &mut [Port<J>],
     mount: &Mount<J>,
 ) -> bool {
-    let meeting = Meeting::new();
-    let (grown, answered) = join(
+    let progress = Progress::new();
+    let (answered, (written, cleaned)) = join(
         rt,
-        || grow(rt, volume, &meeting),
-        || answer(rt, alloc, ports, mount, two(), &meeting),
+        || count_answered(rt, alloc, ports, mount, &progress),
+        || join(
+            rt,
+            || writes_to_the_end(rt, alloc, volume, &progress),
+            || cleans_to_the_end(rt, alloc, volume, &progress),
+        ),
     );
-    answered && grown && meeting.met.load(Ordering::SeqCst) == 2
+    answered == Ok(JOBS) && written && cleaned && progress.was_met()
 }
 
-// ---- two volumes
-
-/// Whether a volume refuses another one's mount, which then goes back to its own.
-fn refuses<J: Volumes, R: Wait>(
-    rt: &R,
-    volume: &Volume<J>,
-    other: &Volume<J>,
-    mount: Mount<J>,
-) -> bool {
-    match other.unmount(rt, mount) {
-        Ok(()) => false,
-        Err((refusal, refused)) => {
-            let given_back = give_back(rt, volume, refused.again());
-            given_back.is_ok() && refusal == VolError::BadMount
-        }
-    }
-}
-
-/// Whether it does so beside a mount of its own with the same number, which it still has then. Each has mounted
-/// once, so both mounts have the same number.
-fn keeps_own<J: Volumes, R: Wait>(
-    rt: &R,
-    alloc: Global,
-    volume: &Volume<J>,
-    mount: Mount<J>,
-    other: &Volume<J>,
-    others: &mut [Port<J>],
-) -> bool {
-    match mount_files(rt, alloc, other, others) {
-        Err(_) => {
-            let _given_back = give_back(rt, volume, mount);
-            false
-        }
-        Ok(own) => {
-            let has_its_number = mount.number() == own.number();
-            let refused = refuses(rt, volume, other, mount);
-            give_back(rt, other, own).is_ok() && refused && has_its_number
-        }
-    }
-}
-
-// ---- all of it
-
-/// Whether many reads of a mount come out as is due.
-fn read_all<J: Volumes + Send + Sync, R: Threads + Wait + Sync>(
+/// Mounts a snapshot of the file, and gives it back behind all of them.
+fn go_beside_a_mount<J: Volumes + Send + Sync, R: Threads + Wait + Sync>(
     rt: &R,
     alloc: Global,
     volume: &Volume<J>,
     ports: &mut [Port<J>],
-    others: &mut [Port<J>],
-    mount: &Mount<J>,
-) -> bool {
-    let Some(other) = others.first_mut() else {
-        return false;
-    };
-    answer(rt, alloc, ports, mount, all_kinds(), &Counts::new())
-        && go_in_turn(rt, alloc, ports, other, mount)
-        && meet(rt, alloc, volume, ports, mount)
-}
-
-/// The same of a mount that is made for it, and whether another volume leaves its own mount where it is handed
-/// that one.
-fn read_mounted<J: Volumes + Send + Sync, R: Threads + Wait + Sync>(
-    rt: &R,
-    alloc: Global,
-    volume: &Volume<J>,
-    ports: &mut [Port<J>],
-    other: &Volume<J>,
-    others: &mut [Port<J>],
 ) -> Result<bool, VolError> {
-    match mount_files(rt, alloc, volume, ports) {
+    let Some(first) = ports.first_mut() else {
+        return Ok(false);
+    };
+    let snapshot = keep_file(rt, alloc, volume, b"/f", b"A")?;
+    match volume.mount(rt, first, snapshot) {
         Err(refusal) => Err(refusal),
         Ok(mount) => {
-            let good = read_all(rt, alloc, volume, ports, others, &mount);
-            Ok(keeps_own(rt, alloc, volume, mount, other, others) && good)
+            let good = go_side_by_side(rt, alloc, volume, ports, &mount);
+            give_back(rt, volume, mount).and(Ok(good))
         }
     }
-}
-
-/// The same of a volume and one that is made beside it.
-fn read_beside<J: Volumes + Send + Sync, R: Threads + Wait + Sync>(
-    rt: &R,
-    alloc: Global,
-    volume: &Volume<J>,
-    ports: &mut [Port<J>],
-    opened: Opened,
-) -> Result<bool, VolError>
-    requires { opened.seen.book ≡ J.book opened.id }
-{
-    let (other, mut others) = shared::<J, _>(rt, alloc, 1, opened)?;
-    let good = read_mounted(rt, alloc, volume, ports, &other, others.as_mut_slice());
-    let _pen = other.end(rt, Vec::new(alloc));
-    good
 }
 
 fn many_reads<J: Volumes + Send + Sync, R: Threads + Wait + Sync>(
     rt: &R,
     alloc: Global,
-    first: Opened,
-    second: Opened,
+    opened: Opened,
 ) -> Result<bool, VolError>
-    requires first { first.seen.book ≡ J.book first.id }
-    requires second { second.seen.book ≡ J.book second.id }
+    requires { opened.seen.book ≡ J.book opened.id }
 {
-    let (volume, mut ports) = shared::<J, _>(rt, alloc, 3, first)?;
-    let good = read_beside(rt, alloc, &volume, ports.as_mut_slice(), second);
+    let (volume, mut ports) = shared::<J, _>(rt, alloc, 2, opened)?;
+    let good = go_beside_a_mount(rt, alloc, &volume, ports.as_mut_slice());
     let _pen = volume.end(rt, Vec::new(alloc));
     good
 }
 
 #[test]
 fn many_reads_are_made_at_once(rt: HostRuntime) -> Result<(), Fail> {
-    assert!(rt; many_reads::<Brand, _>(&rt, rt.alloc(), Opened::new(1), Opened::new(2))?);
+    assert!(rt; many_reads::<Brand, _>(&rt, rt.alloc(), Opened::new(1))?);
     Ok(())
 }

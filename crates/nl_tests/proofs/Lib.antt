@@ -1,2 +1,0 @@
-pub mod TreesStand
-pub mod UsedNumbers

@@ -1,9 +1,9 @@
-//! Blocks of directories byte by byte, and what is found in them.
+//! A block of a directory byte by byte, as the format says.
 ghost use Rattle.std.specs.Prelude.{IsTrue};
 ghost use Rattle.nl_dirs.specs.Records.{AllHaveSpelling, RecordHasSpelling};
 
-use nl_dirs::{Record, find, first_name, pack, record_count, records};
-use nl_types::{Block, InodeNumber, Items, Kind, Page, VolError};
+use nl_dirs::{Record, pack};
+use nl_types::{Block, InodeNumber, Items, Kind, VolError};
 use std::alloc::{AllocError, Global};
 use std::test::Fail;
 
@@ -67,71 +67,29 @@ const FOUR_SPELLED: [u8; 30] = [
     0xff, 0, 0, 0, 0x80, 2, 255,
 ];
 
-/// Whether a page spells the four records, with zeros behind the last one's name.
-fn spells_four(page: &Page) -> bool {
-    let bytes = page.bytes();
+/// Whether a block spells the four records, with zeros behind the last one's name.
+fn spells_four(block: &Block) -> bool {
+    let bytes = block.bytes();
     &bytes[..30] == FOUR_SPELLED.as_slice()
         && bytes[30..285] == [0xff; 255]
         && bytes[285..] == [0; 739]
 }
 
-/// Whether a record is the due one, and its name is found in the page.
-fn is_found(page: &Page, found: &Record, due: &Entry) -> bool {
-    let (name, inode, kind) = *due;
-    found.name.as_slice() == name
-        && found.inode == InodeNumber::new(inode)
-        && found.kind == kind
-        && find(page, name) == Some((found.inode, kind))
-}
-
-/// Whether these are the four records, and each is found in the page.
-fn are_four(page: &Page, records: &[Record]) -> bool {
-    for (found, due) in records.iter().zip(FOUR.as_slice()) {
-        if !is_found(page, found, due) {
-            return false;
-        }
-    }
-    records.len() == 4
-}
-
-/// Whether the four records are read from a page.
-fn reads_four(alloc: Global, page: &Page) -> Result<bool, VolError> {
-    match records(alloc, page)? {
-        Some(read) => Ok(are_four(page, &read)),
-        None => Ok(false),
-    }
-}
-
-fn begins_with_a(page: &Page) -> bool {
-    record_count(page) == 4
-        && first_name(page) == Some(b"a".as_slice())
-        && find(page, b"b").is_none()
-}
-
-/// The page of the one block of some. Refused by `BadImage` where there are none or more.
-fn page_of(alloc: Global, blocks: &[Block]) -> Result<Page, VolError> {
+/// Whether there is one block, which spells the four records.
+fn are_of_four(blocks: &[Block]) -> bool {
     match blocks {
-        [block] => Ok(Page::new(alloc, Block::new(*block.bytes()))?),
-        _ => Err(VolError::BadImage(0)),
+        [block] => spells_four(block),
+        _ => false,
     }
 }
 
-fn page_of_four(alloc: Global) -> Result<Page, VolError> {
+fn packs_four(alloc: Global) -> Result<bool, VolError> {
     let blocks = packed(alloc, &records_of(alloc, &FOUR)?)?;
-    page_of(alloc, blocks.as_slice())
-}
-
-fn is_of_four(alloc: Global, page: &Page) -> Result<bool, VolError> {
-    Ok(spells_four(page) && begins_with_a(page) && reads_four(alloc, page)?)
-}
-
-fn has_four(alloc: Global) -> Result<bool, VolError> {
-    let page = page_of_four(alloc)?;
-    is_of_four(alloc, &page)
+    Ok(are_of_four(blocks.as_slice()))
 }
 
 #[test]
-fn records_are_spelled_and_found(rt: HostRuntime) -> Result<(), Fail> {
-    assert!(rt; has_four(rt.alloc())?);
+fn records_are_spelled_byte_by_byte(rt: HostRuntime) -> Result<(), Fail> {
+    assert!(rt; packs_four(rt.alloc())?);
     Ok(())
 }

@@ -96,7 +96,7 @@ fn add_blocks(text: &mut Vec<u8>, described: &[Bdesc]) -> io::Result<()> {
 }
 
 /// What is told of the payload blocks of a segment, once more where memory is refused.
-pub(crate) fn described<D: Device>(
+fn described<D: Device>(
     alloc: Global,
     pen: &Pen<D>,
     segment: Segment,

@@ -6,12 +6,12 @@ use crate::rows::answers::{add_counted, add_number, add_refusal, add_word, reply
 use crate::rows::events::{ask_behind, event_of};
 use crate::rows::images::{closes, image_size};
 use crate::rows::ports::Ported;
-use crate::rows::questions::{add_asked, described};
+use crate::rows::questions::add_asked;
 use crate::rows::rounds::{Sum, round};
 use crate::rows::words::{number_at, small_at, word_at, words_of};
 use nl_core::Pen;
 use nl_device::FaultDevice;
-use nl_lib::{Cleaned, clean_segments, get_suinfo, sync};
+use nl_lib::{Cleaned, clean_segments, sync};
 use nl_publish::Volumes;
 use nl_types::{Answer, CheckpointNumber, Event, Mode, Reply, Segment, VolError};
 use std::alloc::Global;
@@ -307,35 +307,6 @@ pub(crate) fn do_last<J: Volumes, R: Wait>(
     add_other_reply(alloc, &one, &other, out)
 }
 
-fn same_blocks(
-    alloc: Global,
-    one: &Pen<FaultDevice>,
-    other: &Pen<FaultDevice>,
-    segment: Segment,
-) -> bool {
-    match (
-        described(alloc, one, segment),
-        described(alloc, other, segment),
-    ) {
-        (Ok(one), Ok(other)) => one.as_slice() == other.as_slice(),
-        _ => false,
-    }
-}
-
-/// Whether two pens describe the same payload blocks in each segment of the first one.
-fn same_in_segments(alloc: Global, one: &Pen<FaultDevice>, other: &Pen<FaultDevice>) -> bool {
-    for number in 0..=u32::MAX {
-        let segment = Segment::new(number);
-        if get_suinfo(one, segment).is_err() {
-            return true;
-        }
-        if !same_blocks(alloc, one, other, segment) {
-            return false;
-        }
-    }
-    true
-}
-
 /// Whether two pens close to the same bytes, or neither can be closed.
 fn close_alike(
     one: &mut Pen<FaultDevice>,
@@ -349,16 +320,15 @@ fn close_alike(
     }
 }
 
-/// Adds a line that no row expects where two pens tell other things of checkpoints, segments, payload blocks
-/// or numbers, or close to other bytes.
+/// Adds a line that no row expects where two pens tell other things of checkpoints, segments or numbers, or
+/// close to other bytes.
 pub(crate) fn add_ends(
-    alloc: Global,
     one: &mut Pen<FaultDevice>,
     other: &mut Pen<FaultDevice>,
     tally: &mut Tally,
     out: &mut Vec<u8>,
 ) -> io::Result<()> {
-    if look_at_pen(one) != look_at_pen(other) || !same_in_segments(alloc, one, other) {
+    if look_at_pen(one) != look_at_pen(other) {
         add_line(out, b"differs in what is told")?;
     }
     if !close_alike(one, other, tally) {

@@ -6,7 +6,7 @@ use crate::rows::again::{Alone, Tally};
 use crate::rows::events::event_of;
 use crate::rows::ports::Ported;
 use crate::rows::twins::{add_ends, do_last, do_lines};
-use crate::rows::words::{number_behind, small_at, words_of};
+use crate::rows::words::{has_word, number_behind, small_at, words_of};
 use nl_core::Pen;
 use nl_device::{FaultDevice, MemDevice};
 use nl_mounts::share;
@@ -22,12 +22,12 @@ fn turn_of(words: &[&str], call: &str) -> u64 {
     number_behind(words, call).unwrap_or(0)
 }
 
-/// The volume of `volume SEGMENTS BLOCKS [put NUMBER] [get NUMBER] [growth NUMBER]`.
+/// The volume of `volume SEGMENTS BLOCKS [put NUMBER [torn]] [get NUMBER] [growth NUMBER]`.
 fn volume(alloc: Global, words: &[&str]) -> Result<Pen<FaultDevice>, VolError> {
     let geometry = Geometry::new(small_at(words, 1), small_at(words, 2))?;
     let memory = MemDevice::new(alloc, geometry)?;
     let (put, get) = (turn_of(words, "put"), turn_of(words, "get"));
-    let mut device = FaultDevice::new(alloc, memory, put, get, false)?;
+    let mut device = FaultDevice::new(alloc, memory, put, get, has_word(words, "torn"))?;
     device.fail_growth(turn_of(words, "growth"));
     Pen::format(alloc, device, geometry, 0)
 }
@@ -126,16 +126,10 @@ fn do_again<R: Wait>(
 }
 
 /// Compares a pen with the one that was shared, in the end.
-fn compare(
-    alloc: Global,
-    alone: &mut Alone,
-    ran: Ran,
-    tally: &mut Tally,
-    out: &mut Vec<u8>,
-) -> io::Result<()> {
+fn compare(alone: &mut Alone, ran: Ran, tally: &mut Tally, out: &mut Vec<u8>) -> io::Result<()> {
     let (done, mut other) = ran;
     alone.pen.give_all_back();
-    let compared = add_ends(alloc, &mut alone.pen, &mut other, tally, out);
+    let compared = add_ends(&mut alone.pen, &mut other, tally, out);
     done.and(compared)
 }
 
@@ -153,7 +147,7 @@ fn do_beside<R: Wait>(
         return Ok(());
     };
     match do_again(rt, alloc, alone, other, lines, tally, out) {
-        Ok(ran) => compare(alloc, alone, ran, tally, out),
+        Ok(ran) => compare(alone, ran, tally, out),
         Err(_) => Ok(()),
     }
 }

@@ -1,6 +1,4 @@
-use Rattle.std.proofs.Common.{if◌then◌else◌, ◌==◌}
 use Rattle.nl_port_tests.proofs.many_reads.many_reads_are_made_at_once.Given as goal
 
 abbrev pub ghosts-many_reads : goal.ghosts-many_reads
-ghosts-many_reads g a =
-    record { book = λ id. if id == a.first.id then a.first.seen.book else a.second.seen.book }
+ghosts-many_reads g a = record { book = λ id. a.opened.seen.book }
