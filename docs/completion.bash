@@ -5,7 +5,11 @@ _nlkeep_options() {
     init) echo --size --at ;;
     backup) echo -n --plain --exclude --max --at ;;
     restore) echo --path --owners ;;
-    list) echo -a -l ;;
+    list) echo -a -l --json ;;
+    check) echo -a --json ;;
+    ls | diff | history | df) echo --json ;;
+    pin) echo -d --max --at ;;
+    copy) echo --max ;;
     forget | revert | untar) echo --max --at ;;
     prune) echo --last --hourly --daily --weekly --monthly --yearly -n --at ;;
     esac
@@ -13,13 +17,14 @@ _nlkeep_options() {
 
 _nlkeep() {
     local word=${COMP_WORDS[COMP_CWORD]} command=${COMP_WORDS[1]}
-    local commands='init backup restore list ls tree du cat diff history find revert tar untar forget prune'
+    local commands='init backup restore list ls tree du cat diff history find revert tar untar pin copy df show
+        forget prune check rescue'
     COMPREPLY=()
     if [ "$COMP_CWORD" = 1 ]; then
         mapfile -t COMPREPLY < <(compgen -W "$commands --help --version" -- "$word")
     elif [[ $word == -* ]]; then
         mapfile -t COMPREPLY < <(compgen -W "$(_nlkeep_options "$command") --help" -- "$word")
-    elif [ "$COMP_CWORD" = 3 ] && [[ $command =~ ^(restore|ls|tree|du|cat|diff|revert|tar)$ ]]; then
+    elif [ "$COMP_CWORD" = 3 ] && [[ $command =~ ^(restore|ls|tree|du|cat|diff|revert|tar|pin)$ ]]; then
         mapfile -t COMPREPLY < <(compgen -W "latest yesterday $(nlkeep list "${COMP_WORDS[2]}" 2> /dev/null |
             awk '{ print $1 }')" -- "$word")
     else

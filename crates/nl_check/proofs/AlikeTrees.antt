@@ -2,8 +2,8 @@
 use Rattle.std.proofs.Common.{◌≡◌, ℕ, [], ◌∷◌, Option, Some, None, refl, ap, sym, ◌∙◌}
 use Rattle.std.specs.Option.{option_and_then}
 use Rattle.nl_types.specs.Plain.Paths.{Name, Path}
-use Rattle.nl_types.specs.Plain.Trees.{node_kind}
-use Rattle.nl_types.specs.Inodes.{Link, InodeContent, Bytes, Records, Inodes, inode_named, node_of, reached}
+use Rattle.nl_types.specs.Plain.Trees.{object_kind}
+use Rattle.nl_types.specs.Inodes.{Link, InodeContent, Bytes, Records, Inodes, inode_named, object_of, reached}
 use Rattle.nl_check.specs.InodeTrees.{FormTree, Names}
 use Rattle.nl_check.specs.Private.AlikeNames.{AreAlike, NamesAlike}
 
@@ -33,14 +33,14 @@ records-stay (Some (Bytes bytes)) b e records is = cc
 records-stay (Some (Records own)) b e records is = e ∙ is
 
 used-stays : (a b : Option InodeContent) → AreAlike a b → (content : InodeContent) → a ≡ Some content
-    → (other : InodeContent) × (b ≡ Some other) × (node_kind (node_of other) ≡ node_kind (node_of content))
+    → (other : InodeContent) × (b ≡ Some other) × (object_kind (object_of other) ≡ object_kind (object_of content))
 used-stays None b e content is = cc
 used-stays (Some (Bytes bytes)) b (other, e) content is =
     let own : Bytes bytes ≡ content = cc in
-    (Bytes other, e, ap (λ (c : InodeContent). node_kind (node_of c)) own)
+    (Bytes other, e, ap (λ (c : InodeContent). object_kind (object_of c)) own)
 used-stays (Some (Records records)) b e content is =
     let own : Records records ≡ content = cc in
-    (Records records, e, ap (λ (c : InodeContent). node_kind (node_of c)) own)
+    (Records records, e, ap (λ (c : InodeContent). object_kind (object_of c)) own)
 
 module _ (a b : Inodes) (alike : NamesAlike a b) where
   same-reached : (p : Path) → reached a p ≡ reached b p

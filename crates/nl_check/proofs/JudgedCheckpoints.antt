@@ -1,5 +1,5 @@
 -- What is judged of each checkpoint, and of all.
-use Rattle.std.proofs.Common.{◌≡◌, ℕ, zero, suc, ◌+◌, ◌*◌, ◌/◌, ◌<◌, ◌≤◌, Bool, true, false, cond, List, [], ◌∷◌, length, Option, Some, None, refl, ap, sym, subst, ◌∙◌, inl, inr, arith}
+use Rattle.std.proofs.Common.{◌≡◌, ℕ, zero, suc, ◌+◌, ◌*◌, ◌/◌, ◌<◌, ◌≤◌, Bool, IsTrue, true, false, cond, List, [], ◌∷◌, length, Option, Some, None, refl, ap, sym, subst, ◌∙◌, inl, inr, arith}
 use Rattle.std.specs.Prelude.{map}
 use Rattle.std.specs.List.{All, slice_get}
 use Rattle.std.specs.Option.{is_some, option_and_then, option_map}
@@ -21,7 +21,7 @@ use Rattle.nl_files.specs.CheckpointRoots.{StandsAs, StandsFor, Stores}
 use Rattle.nl_files.specs.CheckpointTrees.{HoldsTree}
 use Rattle.nl_ifile.specs.Inodes.{inode_at}
 use Rattle.nl_tree.specs.Held.{Held, Holding, IsHolding, inode_content, inodes_of_holding}
-use Rattle.nl_check.specs.Conditions.{AreExact, AreShaped, AreTrees, FirstFault, HasExactPeriods, IsSoundShape, IsSoundTree, MeetsItsNumbers, all_met, periods_fail, shapes_fail, trees_fail}
+use Rattle.nl_check.specs.Conditions.{AreExact, AreShaped, AreTrees, FirstFault, HasExactPeriods, IsSoundShape, IsSoundTree, MeetsItsNumbers, Told, all_met, periods_fail, shapes_fail, trees_fail}
 use Rattle.nl_check.specs.InodeTrees.{FormTree, used_below}
 use Rattle.nl_check.specs.ImageConditions.{number_of}
 use Rattle.nl_check.specs.declared.conditions.ImageCondition.TheVariants as condition
@@ -33,7 +33,10 @@ use Rattle.nl_blocktree.specs.FileShapes.{HasShape, IsSizeOf}
 use Rattle.nl_check.specs.Private.SoundInodes.{TellsAll, kind_for, kind_in, kind_told}
 use Rattle.nl_check.specs.Trees.{IsTreeOf}
 use Rattle.nl_check.specs.Private.Walks.{AreSoundAt, IsGood, IsMetWholeAt, IsWalk}
+use Rattle.nl_check.specs.Verdicts.{IsVerdict}
+use Rattle.nl_check.specs.Verdicts as verdicts
 use Rattle.nl_check.specs.declared.checks.Judged.{Judged}
+use Rattle.nl_check.specs.declared.checks.Verdict.{Verdict}
 use Rattle.nl_check.specs.declared.shape.Walk.{Walk}
 use Rattle.nl_check.specs.Facts.Below.{both, not-none, some-by}
 use Rattle.nl_check.proofs.MetNumbers.{tell-periods}
@@ -366,14 +369,16 @@ module _ (pages : Pages) (periods : Periods) (kept : List CheckpointEntry) where
 
   -- a shape that fails
   pub shape-fails : (n : ℕ) (entry : CheckpointEntry) → slice_get kept n ≡ Some entry
-      → (IsSoundShape pages (told entry) → ⊥) → FirstFault pages periods (map told kept) (Some (number_of condition.Shapes))
+      → (IsSoundShape pages (told entry) → ⊥) → IsVerdict pages periods (map told kept) None
   shape-fails n entry here never =
-      shapes_fail (λ all. never (all-at (IsSoundShape pages) told kept n entry all here))
+      verdicts.shapes_fail (λ all. never (all-at (IsSoundShape pages) told kept n entry all here))
 
   -- all are judged
-  pub judged-all : (n : ℕ) (trees exact : Bool) → length kept ≤ n → AreJudged pages periods kept n trees exact
-      → FirstFault pages periods (map told kept) (option_map number_of (fault_told trees exact))
-  judged-all n trees exact past j = by trees exact refl refl
+  pub judged-all : (n : ℕ) (verdict : Verdict) → length kept ≤ n
+      → AreJudged pages periods kept n verdict.trees verdict.periods
+      → IsVerdict pages periods (map told kept) (Some verdict)
+  judged-all n verdict past j =
+      verdicts.shaped verdict shaped (are_trees, trees_hold) (are_exact, exact_hold)
     where
       inside : (k : ℕ) (e : CheckpointEntry) → slice_get kept k ≡ Some e → k < n
       inside k e at = let low = within kept k e at in omega (arith, low, past)
@@ -387,15 +392,32 @@ module _ (pages : Pages) (periods : Periods) (kept : List CheckpointEntry) where
       shaped : AreShaped pages (map told kept)
       shaped = all-from (IsSoundShape pages) told kept (λ k e at. j.shapes k e (inside k e at) at)
 
-      are_trees : trees ≡ true → AreTrees pages (map told kept)
+      are_trees : IsTrue verdict.trees → AreTrees pages (map told kept)
       are_trees t = all-from (IsSoundTree pages) told kept (λ k e at. j.all_trees t k e (inside k e at) at)
 
-      are_exact : exact ≡ true → AreExact pages periods (map told kept)
+      are_exact : IsTrue verdict.periods → AreExact pages periods (map told kept)
       are_exact t =
           all-from (HasExactPeriods pages periods) told kept (λ k e at. j.all_exact t k e (inside k e at) at)
 
-      by : (a b : Bool) → trees ≡ a → exact ≡ b
-          → FirstFault pages periods (map told kept) (option_map number_of (fault_told a b))
-      by false b p q = trees_fail shaped (j.no_tree p)
-      by true false p q = periods_fail shaped (are_trees p) (j.not_exact q)
-      by true true p q = all_met shaped (are_trees p) (are_exact q)
+      trees_hold : AreTrees pages (map told kept) → IsTrue verdict.trees
+      trees_hold all = elim (cases_Bool verdict.trees) [ inl held ↦ held | inr failed ↦ absurd (j.no_tree failed all) ]
+
+      exact_hold : AreExact pages periods (map told kept) → IsTrue verdict.periods
+      exact_hold all =
+          elim (cases_Bool verdict.periods) [ inl held ↦ held | inr failed ↦ absurd (j.not_exact failed all) ]
+
+-- the first condition that fails
+module _ (pages : Pages) (periods : Periods) (kept : List Told) where
+  pub first_of : (found : Option Verdict) → IsVerdict pages periods kept found
+      → FirstFault pages periods kept (option_map number_of (fault_told found))
+  first_of None (verdicts.shapes_fail never) = shapes_fail never
+  first_of (Some verdict) (verdicts.shaped v shaped trees exact) = by v.trees v.periods refl refl
+    where
+      false_not_true : false ≡ true → ⊥
+      false_not_true e = cc
+
+      by : (a b : Bool) → v.trees ≡ a → v.periods ≡ b
+          → FirstFault pages periods kept (option_map number_of (cond a (cond b None (Some condition.Periods)) (Some condition.Trees)))
+      by false b p q = trees_fail shaped (λ all. false_not_true (sym p ∙ trees.1 all))
+      by true false p q = periods_fail shaped (trees.0 p) (λ all. false_not_true (sym q ∙ exact.1 all))
+      by true true p q = all_met shaped (trees.0 p) (exact.0 q)

@@ -7,8 +7,8 @@ use Rattle.std.proofs.lemmas.Option.{slice_get_within}
 use Rattle.std.proofs.Math.ListN.{length-set, set}
 use Rattle.nl_types.specs.declared.kind.Kind.{Kind}
 use Rattle.nl_types.specs.declared.kind.Kind.TheVariants as kind
-use Rattle.nl_types.specs.Inodes.{Records, node_of, reached}
-use Rattle.nl_types.specs.Plain.Trees.{node_kind}
+use Rattle.nl_types.specs.Inodes.{Records, object_of, reached}
+use Rattle.nl_types.specs.Plain.Trees.{object_kind}
 use Rattle.nl_types.specs.Plain.Paths.{Path}
 use Rattle.nl_dirs.specs.declared.record.Record.{Record}
 use Rattle.nl_dirs.specs.Records.{entry_of}
@@ -501,7 +501,7 @@ module _ (held : Holding) (limits : IsHolding held) where
           (places.0, sym m.name_is ∙ (ap (λ (x : Record). x.name) record_same ∙ k.name_is));
       found = λ i content is.
           n.reaches i (record {
-            kind = node_kind (node_of content);
+            kind = object_kind (object_of content);
             used = kind-there held limits i content is;
             taken = none i;
           });

@@ -12,8 +12,8 @@ use Rattle.std.proofs.lemmas.Option.{get_or_from_slice_get, slice_get-get_or, sl
 use Rattle.nl_types.specs.Plain.Paths.{Name, Path, name_cmp, same_name}
 use Rattle.nl_types.specs.declared.kind.Kind.{Kind}
 use Rattle.nl_types.specs.declared.kind.Kind.TheVariants as kind
-use Rattle.nl_types.specs.Plain.Trees.{node_kind}
-use Rattle.nl_types.specs.Inodes.{Bytes, InodeContent, Inodes, Link, Records, inode_named, node_of, reached}
+use Rattle.nl_types.specs.Plain.Trees.{object_kind}
+use Rattle.nl_types.specs.Inodes.{Bytes, InodeContent, Inodes, Link, Records, inode_named, object_of, reached}
 use Rattle.nl_dirs.specs.declared.record.Record.{Record}
 use Rattle.nl_dirs.specs.Records.{NamesAscend, entry_of}
 use Rattle.nl_tree.specs.Held.{Held, Holding, IsHolding, Listed, Stored, inode_content, inodes_of_holding}
@@ -184,7 +184,7 @@ module _ (held : Holding) (limits : IsHolding held) where
   -- ---- kinds
 
   used-by : (o : Option Held) (k : Kind) → kind_held o ≡ Some k
-      → (c : InodeContent) × (option_map inode_content o ≡ Some c) × (node_kind (node_of c) ≡ k)
+      → (c : InodeContent) × (option_map inode_content o ≡ Some c) × (object_kind (object_of c) ≡ k)
   used-by None k is = cc
   used-by (Some (Stored size blocks)) k is = (inode_content (Stored size blocks), refl, cc)
   used-by (Some (Listed records)) k is = (inode_content (Listed records), refl, cc)
@@ -193,17 +193,17 @@ module _ (held : Holding) (limits : IsHolding held) where
   used-as i k is = let u = used-by (held i) k is in record { content = u.0; used = u.1; kind_is = u.2 }
 
   kind-by : (o : Option Held) (c : InodeContent) → option_map inode_content o ≡ Some c
-      → kind_held o ≡ Some (node_kind (node_of c))
+      → kind_held o ≡ Some (object_kind (object_of c))
   kind-by None c is = cc
   kind-by (Some (Stored size blocks)) c is =
       let e : inode_content (Stored size blocks) ≡ c = cc in
-      ap (λ (x : InodeContent). Some (node_kind (node_of x))) e
+      ap (λ (x : InodeContent). Some (object_kind (object_of x))) e
   kind-by (Some (Listed records)) c is =
       let e : inode_content (Listed records) ≡ c = cc in
-      ap (λ (x : InodeContent). Some (node_kind (node_of x))) e
+      ap (λ (x : InodeContent). Some (object_kind (object_of x))) e
 
   pub kind-there : (i : ℕ) (c : InodeContent) → inodes_of_holding held i ≡ Some c
-      → kind_held (held i) ≡ Some (node_kind (node_of c))
+      → kind_held (held i) ≡ Some (object_kind (object_of c))
   kind-there i c is = kind-by (held i) c is
 
   pub kind-used : (i : ℕ) (k : Kind) → IsUsedAs (inodes_of_holding held) i k → kind_held (held i) ≡ Some k

@@ -4,8 +4,8 @@ use Rattle.std.specs.Option.{is_some}
 use Rattle.nl_types.specs.declared.kind.Kind.{Kind}
 use Rattle.nl_types.specs.Plain.Limits.{root_inode}
 use Rattle.nl_types.specs.Plain.Paths.{Name, Path}
-use Rattle.nl_types.specs.Plain.Trees.{Tree, node_kind}
-use Rattle.nl_types.specs.Inodes.{Link, InodeContent, Records, Inodes, MeansTree, node_of, reached}
+use Rattle.nl_types.specs.Plain.Trees.{Tree, object_kind}
+use Rattle.nl_types.specs.Inodes.{Link, InodeContent, Records, Inodes, MeansTree, object_of, reached}
 use Rattle.nl_types.specs.InodeLaws.{MeansPaths}
 
 -- a record of directory d gives the name to an inode
@@ -18,7 +18,7 @@ pub record Names (inodes : Inodes) (d : ℕ) (name : Name) (link : Link) : Type 
 pub record IsUsedAs (inodes : Inodes) (i : ℕ) (kind : Kind) : Type 0 where
   pub content : InodeContent
   pub used : inodes i ≡ Some content
-  pub kind_is : node_kind (node_of content) ≡ kind
+  pub kind_is : object_kind (object_of content) ≡ kind
 
 -- The root's inode is a directory. Each record names another inode in use by its kind, and no other record
 -- names that. Each inode in use is found by a walk from the root.

@@ -14,6 +14,7 @@ use Rattle.nl_check.specs.declared.conditions.ImageCondition.{ImageCondition}
 use Rattle.nl_check.specs.declared.conditions.ImageCondition.TheVariants as condition
 use Rattle.nl_check.specs.declared.checks.Judged.{Judged}
 use Rattle.nl_check.specs.declared.checks.Last.{Last}
+use Rattle.nl_check.specs.declared.checks.Verdict.{Verdict}
 use Rattle.nl_check.specs.declared.shape.Walk.{Walk}
 
 -- what an entry of the checkpoint file tells of its checkpoint
@@ -67,6 +68,7 @@ pub record IsAlike (one other : CheckpointEntry) : Type 0 where
   pub size : one.size ≡ other.size
   pub inodes : one.inodes ≡ other.inodes
 
--- the first condition that fails, where it is known of the last two whether they hold
-abbrev pub fault_told : Bool → Bool → Option ImageCondition
-fault_told trees periods = cond trees (cond periods None (Some condition.Periods)) (Some condition.Trees)
+-- the first condition that fails by what is told of all of them
+abbrev pub fault_told : Option Verdict → Option ImageCondition
+fault_told None = Some condition.Shapes
+fault_told (Some verdict) = cond verdict.trees (cond verdict.periods None (Some condition.Periods)) (Some condition.Trees)

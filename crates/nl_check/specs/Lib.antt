@@ -3,6 +3,7 @@ pub mod InodeTrees
 pub mod Shapes
 pub mod Trees
 pub mod Conditions
+pub mod Verdicts
 pub mod Laws
 pub mod Periods
 pub mod Judging

@@ -1,9 +1,8 @@
 //! The first of the conditions of checkpoints that fails.
 ghost use Rattle.std.specs.Prelude.{◌≡◌, ◌↔◌, ◌<◌, ◌≤◌, ◌*◌, ℕ, length, map, is_some, IsTrue, IsSome, IfOk, IfErr, IfSome, IsOkUnless, None, Ok};
-ghost use Rattle.std.specs.Option.{option_map};
 ghost use Rattle.nl_types.specs.declared.error.VolError;
 ghost use Rattle.nl_check.specs.Conditions.{FirstFault, IsSoundShape};
-ghost use Rattle.nl_check.specs.ImageConditions.{number_of};
+ghost use Rattle.nl_check.specs.Verdicts.{IsVerdict};
 ghost use Rattle.nl_check.specs.Judging.{HasRoom, IsAlike, IsJudgedLast, IsLast, KnowsLast, fault_told, told};
 ghost use Rattle.nl_check.specs.Private.Turns.{AreTurns, WereOfPeriods};
 ghost use Rattle.nl_check.specs.Private.Walks.{IsGood};
@@ -211,30 +210,43 @@ fn judge_next<V: VRead>(
     }
 }
 
-/// The first condition that fails of checkpoints that have their shape.
-fn fault_of(judged: Judged) -> Option<ImageCondition>
-    ensures { result ≡ fault_told judged.trees judged.periods }
+/// Which conditions checkpoints meet that all have their shape.
+#[derive(Clone, Copy)]
+pub struct Verdict {
+    /// Whether the inodes of each hold the tree that its entry tells (9).
+    pub trees: bool,
+    /// Whether each meets just the numbers whose periods have it (10).
+    pub periods: bool,
+}
+
+/// The first condition that fails, where nothing is told of checkpoints of which one has not its shape.
+fn fault_of(verdict: Option<Verdict>) -> Option<ImageCondition>
+    ensures { result ≡ fault_told verdict }
 {
-    if !judged.trees {
-        Some(ImageCondition::Trees)
-    } else if !judged.periods {
-        Some(ImageCondition::Periods)
-    } else {
-        None
+    match verdict {
+        None => Some(ImageCondition::Shapes),
+        Some(verdict) => {
+            if !verdict.trees {
+                Some(ImageCondition::Trees)
+            } else if !verdict.periods {
+                Some(ImageCondition::Periods)
+            } else {
+                None
+            }
+        }
     }
 }
 
-/// Judges checkpoints one after another, as `first_fault` does. Nothing is found yet.
+/// Judges checkpoints one after another, as `judge_checkpoints` does. Nothing is found yet.
 fn judge_all<V: VRead>(
     image: &Image<'_, V>,
     found: &mut Found,
     kept: &[CheckpointEntry],
-) -> Result<Option<ImageCondition>, VolError>
+) -> Result<Option<Verdict>, VolError>
     requires room { HasRoom (V.pages image.now.store.now) (V.periods image.now.store.now) found.old.met }
     requires turns { AreTurns (V.periods image.now.store.now) image.now.turns.now }
-    ensures fault { IfOk result (λ fault.
-        FirstFault (V.pages image.now.store.now) (V.periods image.now.store.now)
-        (map told kept.now) (option_map number_of fault)) }
+    ensures verdict { IfOk result
+        (IsVerdict (V.pages image.now.store.now) (V.periods image.now.store.now) (map told kept.now)) }
     ensures refused { IfErr result (λ e. e ≡ VolError.Memory) }
 {
     let mut changes = Changes::new(image.alloc);
@@ -245,11 +257,43 @@ fn judge_all<V: VRead>(
     };
     for entry in kept {
         let Some(now) = judge_next(image, found, &mut changes, &judged, entry)? else {
-            return Ok(Some(ImageCondition::Shapes));
+            return Ok(None);
         };
         judged = now;
     }
-    Ok(fault_of(judged))
+    Ok(Some(Verdict {
+        trees: judged.trees,
+        periods: judged.periods,
+    }))
+}
+
+/// Judges all three conditions of kept checkpoints, each whether or not another one holds: the tree that the
+/// inodes of each hold (9), and that it meets just the numbers whose periods have it (10). None where one has not
+/// the shape of its files (8). The pages are any. A number in use has both a page and a period, and is at most
+/// the count of blocks.
+///
+/// Refused by `Memory` alone.
+pub fn judge_checkpoints<V: VRead>(
+    alloc: Global,
+    store: &V,
+    geometry: Geometry,
+    kept: &[CheckpointEntry],
+) -> Result<Option<Verdict>, VolError>
+    requires within { (v : ℕ) → IsSome (V.pages store.now v)
+        → v ≤ geometry.segments * geometry.blocks }
+    requires each { (v : ℕ) → is_some (V.pages store.now v) ≡ is_some (V.periods store.now v) }
+    ensures verdict { IfOk result
+        (IsVerdict (V.pages store.now) (V.periods store.now) (map told kept.now)) }
+    ensures refused { IsOkUnless result VolError.Memory }
+{
+    let mut found = Found::nothing(alloc, u64::from(geometry.total()))?;
+    let turns = all_turns(alloc, store, found.met.len())?;
+    let image = Image {
+        alloc,
+        store,
+        turns: turns.as_slice(),
+    };
+    judge_all(&image, &mut found, kept)
 }
 
 /// Which of the conditions 8 to 10 of an image is the first that a kept checkpoint doesn't meet: the shape of
@@ -258,6 +302,7 @@ fn judge_all<V: VRead>(
 /// most the count of blocks.
 ///
 /// Refused by `Memory` alone.
+#[tactic(auto, using(crate::proofs::JudgedCheckpoints::first_of))]
 pub fn first_fault<V: VRead>(
     alloc: Global,
     store: &V,
@@ -271,14 +316,7 @@ pub fn first_fault<V: VRead>(
         (map told kept.now) fault) }
     ensures refused { IsOkUnless result VolError.Memory }
 {
-    let mut found = Found::nothing(alloc, u64::from(geometry.total()))?;
-    let turns = all_turns(alloc, store, found.met.len())?;
-    let image = Image {
-        alloc,
-        store,
-        turns: turns.as_slice(),
-    };
-    match judge_all(&image, &mut found, kept)? {
+    match fault_of(judge_checkpoints(alloc, store, geometry, kept)?) {
         Some(condition) => Ok(Some(condition.number())),
         None => Ok(None),
     }

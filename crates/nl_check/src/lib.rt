@@ -24,6 +24,6 @@ mod subtrees;
 mod trees;
 mod turns;
 
-pub use checks::first_fault;
+pub use checks::{Verdict, first_fault, judge_checkpoints};
 pub use conditions::ImageCondition;
 pub use sizes::size_of_blocks;

@@ -216,25 +216,21 @@ pub const COMMANDS: &[CommandForm] = &[
 ];
 
 /// The first of the commands that a word names.
-fn form_in(commands: &[CommandForm], word: &str) -> Option<CommandForm>
-    ensures { option_map entry_of result ≡ entry_in word.now (map entry_of commands.now) }
+fn form_in<'a>(commands: &'a [CommandForm], word: &str) -> Option<&'a CommandForm>
+    ensures { option_map (λ form. entry_of form.now) result ≡ entry_in word.now (map entry_of commands.now) }
 {
-    match commands {
-        [] => None,
-        [command, rest @ ..] => {
-            if command.word == word {
-                Some(*command)
-            } else {
-                form_in(rest, word)
-            }
+    for command in commands {
+        if command.word == word {
+            return Some(command);
         }
     }
+    None
 }
 
 /// The command that a word names.
 #[tactic(auto, unfolding(crate::specs::CommandNames::commands))]
-fn form_for(word: &str) -> Option<CommandForm>
-    ensures { option_map entry_of result ≡ entry_in word.now commands }
+fn form_for(word: &str) -> Option<&'static CommandForm>
+    ensures { option_map (λ form. entry_of form.now) result ≡ entry_in word.now commands }
 {
     form_in(COMMANDS, word)
 }
@@ -272,9 +268,9 @@ fn command_given(alloc: Global, name: CommandName, given: &Given<'_>) -> Result<
 ///
 /// # Errors
 /// `Usage` where the words are not of the command's form; `Memory`.
-fn read_by_form(alloc: Global, form: CommandForm, words: &[&str]) -> Result<Command, LineError>
-    requires { is_readable (grammar form.word.now (map argument_rule form.arguments.now)) ≡ true }
-    ensures { IsUnless LineError.Memory result (entry_meant (entry_of form) (map (λ w. w.now) words.now)) }
+fn read_by_form(alloc: Global, form: &CommandForm, words: &[&str]) -> Result<Command, LineError>
+    requires { is_readable (grammar form.now.word.now (map argument_rule form.now.arguments.now)) ≡ true }
+    ensures { IsUnless LineError.Memory result (entry_meant (entry_of form.now) (map (λ w. w.now) words.now)) }
 {
     let given = read(alloc, form.word, form.arguments, words)?;
     command_given(alloc, form.name, &given)

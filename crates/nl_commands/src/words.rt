@@ -7,6 +7,8 @@ use std::alloc::Global;
 
 /// What parts words.
 const BLANKS: [char; 2] = [' ', '\t'];
+/// So many words take no second request for memory.
+const USUAL_WORDS: usize = 4;
 
 /// The first word of a text that begins with neither a blank nor a quotation mark, and what follows,
 /// where no tab ends it. A search for one character takes many bytes at once.
@@ -62,8 +64,11 @@ pub fn words_of(alloc: Global, line: &str) -> Result<Vec<&str>, LineError>
     ensures open { IsErrOf result LineError.Usage → HasOpenWord line.now }
 {
     let has_tabs = line.contains('\t');
-    let mut words = Vec::new(alloc);
     let mut rest = trimmed(line);
+    if rest.is_empty() {
+        return Ok(Vec::new(alloc));
+    }
+    let mut words = Vec::with_capacity(alloc, USUAL_WORDS)?;
     while !rest.is_empty() {
         let Some((word, behind)) = first_word(rest, has_tabs) else {
             return Err(LineError::Usage);

@@ -73,7 +73,7 @@ applied x (Resized segments blocks) = record x { numbers = with_room segments bl
 abbrev pub shown_after : List Commit → Shown
 shown_after log = fold applied nothing log
 
--- ---- what is true of every image
+-- ---- what is true of every state
 
 -- the checkpoint of a root stands for a tree
 pub record HasTree (pages : Pages) (root : Root) : Type 0 where
@@ -83,7 +83,7 @@ pub record HasTree (pages : Pages) (root : Root) : Type 0 where
 
 -- Each kept checkpoint stands for a tree. A mount was given its number, and its checkpoint is a kept
 -- snapshot.
-pub record IsShownImage (x : Shown) : Type 0 where
+pub record IsShownState (x : Shown) : Type 0 where
   pub table : IsTable x.table
   pub trees : (n : ℕ) (c : Checkpoint) → kept_at n x.table ≡ Some c
       → HasTree (pages_shown x) (checkpoint_root c)
@@ -120,7 +120,7 @@ IsNew x (Freed gone) = Unit {0}
 IsNew x (Resized segments blocks) = length x.numbers ≤ segments * blocks + 1
 
 pub record IsNext (x : Shown) (c : Commit) : Type 0 where
-  pub image : IsShownImage (applied x c)
+  pub state : IsShownState (applied x c)
   pub keeps : KeepsCheckpoints x (applied x c)
   pub new : IsNew x c
 
@@ -130,7 +130,7 @@ AllNext x (c ∷ commits) = IsNext x c × AllNext (applied x c) commits
 
 -- the first commit shows the whole volume, and each later one may follow those before it
 abbrev pub IsHistory : List Commit → Type 0
-IsHistory (Whole w ∷ commits) = IsShownImage (whole_of w) × AllNext (whole_of w) commits
+IsHistory (Whole w ∷ commits) = IsShownState (whole_of w) × AllNext (whole_of w) commits
 IsHistory log = ⊥
 
 -- ---- laws of histories
@@ -144,9 +144,9 @@ pub record StillShows (x y : Shown) (m n : ℕ) (c : Checkpoint) : Type 0 where
   pub snapshot : now.mode ≡ Snapshot
   pub keeps : KeepsCheckpoint (pages_shown x) (pages_shown y) c now
 
--- what a mount shows in an image it shows in each later one, until it is given back
+-- what a mount shows in a state it shows in each later one, until it is given back
 abbrev pub MountsStillShow : Type 0
 MountsStillShow =
-    (x : Shown) (commits : List Commit) (m n : ℕ) (c : Checkpoint) → IsShownImage x → AllNext x commits
+    (x : Shown) (commits : List Commit) (m n : ℕ) (c : Checkpoint) → IsShownState x → AllNext x commits
     → mounted_on x m ≡ Some n → kept_at n x.table ≡ Some c
     → AllByRecursion (λ (d : Commit). d ≢ GivenBack m) commits → StillShows x (fold applied x commits) m n c

@@ -14,7 +14,7 @@ use Rattle.nl_cpfile.specs.declared.checkpoint.Checkpoint.{Checkpoint}
 use Rattle.nl_vstore.specs.Batches.{Changes}
 use Rattle.nl_vstore.specs.Located.{numbers_in}
 use Rattle.nl_vstore.specs.Stores.{Numbered, Store}
-use Rattle.nl_commit.specs.Commits.{AllNext, IsShownImage, applied}
+use Rattle.nl_commit.specs.Commits.{AllNext, IsShownState, applied}
 use Rattle.nl_commit.specs.Layout.{AllowedBetween, Does, HasWrittenCheckpoint, IsPen, Layout, unshared}
 use Rattle.nl_commit.specs.Shown.{Shown}
 use Rattle.nl_commit.specs.Volume.{Lists, boundary_in}
@@ -151,7 +151,7 @@ AreCommitsOf old event reply new more =
 pub record IsNoted (old : Layout) (event : Event) (reply : Reply) (new : Layout)
     (more : List Commit) : Type 0 where
   pub commits : AreCommitsOf old event reply new more
-  pub image : shown_of new ≡ fold applied (shown_of old) more
+  pub state : shown_of new ≡ fold applied (shown_of old) more
   pub next : AllNext (shown_of old) more
 
 -- what an event does to a pen is noted by its commits
@@ -188,6 +188,6 @@ DoesNoting old event reply new before after = DoesTelling true old event reply n
 
 -- ---- laws
 
--- what readers see of a pen is an image
-abbrev pub PensAreImages : Type 0
-PensAreImages = (l : Layout) → IsPen l → IsShownImage (shown_of l)
+-- what readers see of a pen is a state
+abbrev pub PensShowStates : Type 0
+PensShowStates = (l : Layout) → IsPen l → IsShownState (shown_of l)

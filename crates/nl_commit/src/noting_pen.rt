@@ -33,7 +33,7 @@ pub trait NotingPen: Drop {
     /// All that readers see of it, as the commit that begins a history. Refused by `Memory` alone.
     fn whole(&self) -> Result<Commit, VolError>
         ensures begins { IfOk result (λ commit. IsHistory (commit ∷ [])) }
-        ensures image { IfOk result (λ commit. shown_after (commit ∷ []) ≡ shown_of (layout self.now)) }
+        ensures state { IfOk result (λ commit. shown_after (commit ∷ []) ≡ shown_of (layout self.now)) }
         ensures mounts { IfOk result (λ commit. MountsRise (shown_after (commit ∷ []))) }
         ensures refused { IsOkUnless result VolError.Memory };
 

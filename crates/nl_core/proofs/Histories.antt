@@ -110,8 +110,8 @@ mounts_still_show x [] m n c image next is kept apart =
 mounts_still_show x (k ∷ commits) m n c image next is kept apart =
     let y = applied x k in
     let stays = stays-mounted x k m n next.0.new apart.0 is in
-    let there = next.0.image.mounted m n stays in
-    let later = mounts_still_show y commits m n there.0 next.0.image next.1 stays there.1 apart.1 in
+    let there = next.0.state.mounted m n stays in
+    let later = mounts_still_show y commits m n there.0 next.0.state next.1 stays there.1 apart.1 in
     record {
       mounted = later.mounted;
       now = later.now;

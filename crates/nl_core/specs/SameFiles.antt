@@ -1,6 +1,6 @@
 -- Files that are one in two checkpoints of a pen.
 use Rattle.std.specs.Prelude.{◌≡◌, ℕ, List, Some}
-use Rattle.nl_types.specs.declared.reply.Node.TheVariants.{File}
+use Rattle.nl_types.specs.declared.reply.Object.TheVariants.{File}
 use Rattle.nl_types.specs.Plain.Paths.{Path}
 use Rattle.nl_types.specs.Plain.Trees.{lookup}
 use Rattle.nl_types.specs.Plain.Worlds.{World, Copy, copy_at}

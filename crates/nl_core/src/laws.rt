@@ -4,7 +4,7 @@ ghost use Rattle.std.specs.Prelude.{Bool};
 ghost use Rattle.nl_events.specs.CleanedPens.{MinorsKeepPens, MovesKeepPens, RefusedMovesKeepPens, RetirementsKeepPens};
 ghost use Rattle.nl_commit.specs.Commits.{MountsStillShow};
 ghost use Rattle.nl_core.specs.LedgerEvents.{EventsAreLedgerEvents, RunsAreLedgerEvents, RunsKeepNumbers};
-ghost use Rattle.nl_commit.specs.Notes.{CommitsTellAll, PensAreImages, allowed_where};
+ghost use Rattle.nl_commit.specs.Notes.{CommitsTellAll, PensShowStates, allowed_where};
 ghost use Rattle.nl_core.specs.PenImages.{ImagesMeanOneWorld, PenImagesAreImages, PensHaveOneImage};
 ghost use Rattle.nl_core.specs.Opened.{CheckedCheckpointsHaveInodes, OpenedImagesArePens};
 ghost use Rattle.nl_commit.specs.Laws.{MeansOneWorld, EventsLeadOn, RunsLeadOn, FailedWritesAreTold, RefusalsKeepPens, RefusalsHaveReasons, NoSpaceIsSaid, NoSpaceIsTrue, MemoryIsTaken, RangesGoOneByOne, ExpiriesGoOneByOne, SettlingsAreAlike};
@@ -102,10 +102,10 @@ pub fn runs_keep_numbers()
     nl_types::laws::numbers_end_once();
 }
 
-/// What readers see of a pen is an image: every kept checkpoint stands for a tree, and every mount is one of
+/// What readers see of a pen is a state: every kept checkpoint stands for a tree, and every mount is one of
 /// a kept snapshot.
-pub fn pens_are_images()
-    ensures { PensAreImages }
+pub fn pens_show_states()
+    ensures { PensShowStates }
 {}
 
 /// The commits of an event lead from what readers saw of the pen to what they see then, and may follow.

@@ -298,7 +298,7 @@ impl<D: Device> Pen<D> {
     /// alone.
     pub fn whole(&self) -> Result<Commit, VolError>
         ensures begins { IfOk result (λ commit. IsHistory (commit ∷ [])) }
-        ensures image { IfOk result (λ commit. shown_after (commit ∷ []) ≡ shown_of self.now) }
+        ensures state { IfOk result (λ commit. shown_after (commit ∷ []) ≡ shown_of self.now) }
         ensures mounts { IfOk result (λ commit. MountsRise (shown_after (commit ∷ []))) }
         ensures refused { IsOkUnless result VolError.Memory }
     {

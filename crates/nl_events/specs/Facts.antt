@@ -6,7 +6,7 @@ pub mod CleanedPens
 pub mod CleaningEvents
 pub mod CountedPens
 pub mod ExpiredNumbers
-pub mod Images
+pub mod States
 pub mod Keeping
 pub mod KeptLists
 pub mod KeptNumbers

@@ -44,7 +44,7 @@ fn shown_numbers<V: Vstore>(
 impl<V: Vstore> Parts<V> {
     /// All that readers see. Refused by `Memory` alone.
     pub fn whole(&self) -> Result<Whole, AllocError>
-        ensures image { IfOk result (λ w. whole_of w ≡ shown_of self.now) }
+        ensures state { IfOk result (λ w. whole_of w ≡ shown_of self.now) }
         ensures mounts { IfOk result (λ w. MountsRise (whole_of w)) }
     {
         let numbers = shown_numbers(self.alloc, &self.store)?;

@@ -52,7 +52,7 @@ no_steps present wanted gone come gone_is come_is = record {
     steps_are = tt;
     gone = λ k _. ap (λ (flags : List Bool). get_or flags k false) gone_is ∙ unset (length present) k;
     come = λ k _. ap (λ (flags : List Bool). get_or flags k false) come_is ∙ unset (length wanted) k;
-    done = record { done = refl; is_tree = p.is_tree; nodes = λ q. refl; size = omega arith };
+    done = record { done = refl; is_tree = p.is_tree; objects = λ q. refl; size = omega arith };
   };
 }
 

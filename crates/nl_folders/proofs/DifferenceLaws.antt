@@ -5,8 +5,8 @@ use Rattle.std.specs.Ordering.{ordering_reverse}
 use Rattle.std.specs.FinMap.{find, is_sorted}
 use Rattle.std.specs.FinMap.Entries.{below_all, by_order}
 use Rattle.std.proofs.lemmas.Bool.{and_parts}
-use Rattle.nl_types.specs.declared.reply.Node.{Node}
-use Rattle.nl_types.specs.declared.reply.Node.TheVariants.{Dir, File}
+use Rattle.nl_types.specs.declared.reply.Object.{Object}
+use Rattle.nl_types.specs.declared.reply.Object.TheVariants.{Dir, File}
 use Rattle.nl_types.specs.Plain.Paths.{Path, path_cmp, same_path}
 use Rattle.nl_types.specs.Plain.Trees.{Tree, lookup}
 use Rattle.nl_types.specs.Facts.TreeLaws.{path_total, paths_equal, same_path-equal}
@@ -23,7 +23,7 @@ added_exact (f ∷ new) p =
     elim (same_path p f.0) as (λ b. cond b (Some Added) (find path_cmp p (all_added new))
     ≡ difference_of None (cond b (Some f.1) (lookup new p))) [ true ↦ refl | false ↦ added_exact new p ]
 
-removed_is : (e : Node) → difference_of (Some e) None ≡ Some Removed
+removed_is : (e : Object) → difference_of (Some e) None ≡ Some Removed
 removed_is Dir = refl
 removed_is (File bytes) = refl
 
@@ -39,7 +39,7 @@ told_exact p k None rest others is none =
 told_exact p k (Some d) rest others is none =
     ap (cond (same_path p k) (Some d)) is
 
-module _ (e : Path × Node) (old : Tree) (sorted : is_sorted path_cmp (e ∷ old) ≡ true)
+module _ (e : Path × Object) (old : Tree) (sorted : is_sorted path_cmp (e ∷ old) ≡ true)
     (rest : (new : Tree) → is_sorted path_cmp new ≡ true → (p : Path)
     → find path_cmp p (differences old new) ≡ difference_of (lookup old p) (lookup new p)) where
   beside_exact : (new : Tree) → is_sorted path_cmp new ≡ true → (p : Path)
@@ -76,7 +76,7 @@ module _ (e : Path × Node) (old : Tree) (sorted : is_sorted path_cmp (e ∷ old
             let here = same_path-equal p e.0 same in
             let no_old : lookup old p ≡ None = ap (lookup old) here ∙ absent e.0 old olds.0 in
             let no_new : lookup new p ≡ None = ap (lookup new) (here ∙ keys) ∙ absent f.0 new news.0 in
-            ap (λ (o : Option Node). difference_of o (lookup new p)) no_old
+            ap (λ (o : Option Object). difference_of o (lookup new p)) no_old
             ∙ ap (difference_of None) no_new)
             ∙ elim (same_path p e.0) as (λ b.
             cond b (difference_of (Some e.1) (Some f.1)) others
@@ -91,7 +91,7 @@ module _ (e : Path × Node) (old : Tree) (sorted : is_sorted path_cmp (e ∷ old
               | true ↦ λ same.
                   let less : path_cmp f.0 e.0 ≡ Less =
                   path_total.antisymm f.0 e.0 ∙ ap ordering_reverse greater in
-                  sym (ap (λ (o : Option Node). difference_of o (Some f.1))
+                  sym (ap (λ (o : Option Object). difference_of o (Some f.1))
                   (ap (lookup (e ∷ old)) (same_path-equal p f.0 same) ∙ below_first f.0 e old less sorted))
               | false ↦ λ _. beside_exact new news.1 p
             ] refl

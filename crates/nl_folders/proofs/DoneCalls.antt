@@ -11,12 +11,12 @@ use Rattle.nl_types.specs.declared.event.Change.TheVariants.{Create, Mkdir, Writ
 use Rattle.nl_types.specs.declared.kind.Kind.{Kind}
 use Rattle.nl_types.specs.declared.reply.Answer.{Answer}
 use Rattle.nl_types.specs.declared.reply.Answer.TheVariants as answer
-use Rattle.nl_types.specs.declared.reply.Node.{Node}
-use Rattle.nl_types.specs.declared.reply.Node.TheVariants.{Dir, File}
+use Rattle.nl_types.specs.declared.reply.Object.{Object}
+use Rattle.nl_types.specs.declared.reply.Object.TheVariants.{Dir, File}
 use Rattle.nl_types.specs.Plain.Limits.{file_limit, path_limit}
 use Rattle.nl_types.specs.Plain.Paths.{Name, Path, name_cmp, path_cmp, path_of, same_path}
-use Rattle.nl_types.specs.Plain.Trees.{Tree, IsTree, lookup, insert, remove, children, node_kind}
-use Rattle.nl_types.specs.Plain.Calls.{Changed, and_then, list, named, refuse_if, ok_unless, stops_walk, stop_from, walk, node_at, file_at, file_in, dir_at, dir_in, is_root, has_names, change, create, write, overwritten, truncate, resized, unlink, rmdir}
+use Rattle.nl_types.specs.Plain.Trees.{Tree, IsTree, lookup, insert, remove, children, object_kind}
+use Rattle.nl_types.specs.Plain.Calls.{Changed, and_then, list, named, refuse_if, ok_unless, stops_walk, stop_from, walk, object_at, file_at, file_in, dir_at, dir_in, is_root, has_names, change, create, write, overwritten, truncate, resized, unlink, rmdir}
 use Rattle.nl_types.specs.Facts.Booleans.{holds}
 use Rattle.nl_types.specs.Facts.CallLookups.{creates_add_one, writes_change_one, truncates_change_one, unlinks_remove_one, rmdirs_remove_one}
 use Rattle.nl_types.specs.Facts.ChangeLaws.{change_then_tree}
@@ -35,7 +35,7 @@ passes tree t walked (n ∷ names) is =
     let further : is_some (lookup tree ((walked ++ n ∷ []) ++ names)) ≡ true =
     ap (λ p. is_some (lookup tree p)) (append_assoc walked (n ∷ []) names) ∙ is in
     let dir = t.parents walked n (above_is tree t names (walked ++ n ∷ []) further) in
-    ap (λ (o : Option Node). option_or (stops_walk o) (stop_from tree (walked ++ n ∷ []) names)) dir
+    ap (λ (o : Option Object). option_or (stops_walk o) (stop_from tree (walked ++ n ∷ []) names)) dir
     ∙ passes tree t (walked ++ n ∷ []) names further
 
 -- a walk comes to each path of a tree
@@ -46,12 +46,12 @@ walk_there tree path t is = ap ok_unless (passes tree t [] path is)
 passes_on : (tree : Tree) → IsTree tree → (walked names : Path) (name : Name)
     → lookup tree (walked ++ names) ≡ Some Dir → stop_from tree walked (names ++ name ∷ []) ≡ None
 passes_on tree t walked [] name dir =
-    ap (λ (o : Option Node). option_or (stops_walk o) None) (ap (lookup tree) (sym (append-nil walked)) ∙ dir)
+    ap (λ (o : Option Object). option_or (stops_walk o) None) (ap (lookup tree) (sym (append-nil walked)) ∙ dir)
 passes_on tree t walked (n ∷ names) name dir =
     let further : lookup tree ((walked ++ n ∷ []) ++ names) ≡ Some Dir =
     ap (lookup tree) (append_assoc walked (n ∷ []) names) ∙ dir in
     let here = t.parents walked n (above_is tree t names (walked ++ n ∷ []) (ap is_some further)) in
-    ap (λ (o : Option Node).
+    ap (λ (o : Option Object).
     option_or (stops_walk o) (stop_from tree (walked ++ n ∷ []) (names ++ name ∷ []))) here
     ∙ passes_on tree t (walked ++ n ∷ []) names name further
 
@@ -60,22 +60,22 @@ pub walk_below : (tree : Tree) (dir : Path) (name : Name) → IsTree tree → lo
     → walk tree (dir ++ name ∷ []) ≡ Ok tt
 walk_below tree dir name t is = ap ok_unless (passes_on tree t [] dir name is)
 
-pub node_there : (tree : Tree) (path : Path) (node : Node) → IsTree tree → lookup tree path ≡ Some node
-    → node_at tree path ≡ Ok node
-node_there tree path node t is =
+pub object_there : (tree : Tree) (path : Path) (object : Object) → IsTree tree → lookup tree path ≡ Some object
+    → object_at tree path ≡ Ok object
+object_there tree path object t is =
     ap (λ (r : Result (Unit {0}) VolError). and_then r (λ _. ok_or (lookup tree path) error.NotFound))
     (walk_there tree path t (ap is_some is))
-    ∙ ap (λ (o : Option Node). ok_or o error.NotFound) is
+    ∙ ap (λ (o : Option Object). ok_or o error.NotFound) is
 
 pub file_there : (tree : Tree) (path : Path) (bytes : List ℕ) → IsTree tree
     → lookup tree path ≡ Some (File bytes) → file_at tree path ≡ Ok bytes
 file_there tree path bytes t is =
-    ap (λ (r : Result Node VolError). and_then r file_in) (node_there tree path (File bytes) t is)
+    ap (λ (r : Result Object VolError). and_then r file_in) (object_there tree path (File bytes) t is)
 
 pub dir_there : (tree : Tree) (path : Path) → IsTree tree → lookup tree path ≡ Some Dir
     → dir_at tree path ≡ Ok tt
 dir_there tree path t is =
-    ap (λ (r : Result Node VolError). and_then r dir_in) (node_there tree path Dir t is)
+    ap (λ (r : Result Object VolError). and_then r dir_in) (object_there tree path Dir t is)
 
 pub list_there : (tree : Tree) (path : Path) → IsTree tree → lookup tree path ≡ Some Dir
     → list tree path ≡ Ok (map named (children tree path))
@@ -95,49 +95,49 @@ none_named (n ∷ names) none =
 no_names : (tree : Tree) (dir : Path) → ((name : Name) → lookup tree (dir ++ name ∷ []) ≡ None)
     → has_names tree dir ≡ false
 no_names tree dir none =
-    none_named (children tree dir) (λ n. find-children tree dir n ∙ ap (option_map node_kind) (none n))
+    none_named (children tree dir) (λ n. find-children tree dir n ∙ ap (option_map object_kind) (none n))
 
 -- ---- calls
 
 -- The call is done. It leaves a tree with this at the path, and at every other path what there was.
-pub record IsDoneAt (tree : Tree) (call : Change) (path : Path) (node : Option Node) : Type 0 where
+pub record IsDoneAt (tree : Tree) (call : Change) (path : Path) (object : Option Object) : Type 0 where
   pub given : Answer
   pub next : Tree
   pub done : change tree call ≡ Ok (given, next)
   pub is_tree : IsTree next
-  pub nodes : (q : Path) → lookup next q ≡ cond (same_path q path) node (lookup tree q)
+  pub objects : (q : Path) → lookup next q ≡ cond (same_path q path) object (lookup tree q)
   pub size : length next ≤ length tree + 1
 
--- a node more, or another one, and one less
-put_size : (tree : Tree) (path : Path) (node : Node) → IsTree tree
-    → length (insert tree path node) ≤ length tree + 1
-put_size tree path node t =
-    by (is_some (lookup tree path)) (length-put path_cmp path_total path node tree (holds _ t.ordered))
+-- an object more, or another one, and one less
+put_size : (tree : Tree) (path : Path) (object : Object) → IsTree tree
+    → length (insert tree path object) ≤ length tree + 1
+put_size tree path object t =
+    by (is_some (lookup tree path)) (length-put path_cmp path_total path object tree (holds _ t.ordered))
   where
-    by : (there : Bool) → length (insert tree path node) ≡ cond there (length tree) (length tree + 1)
-        → length (insert tree path node) ≤ length tree + 1
+    by : (there : Bool) → length (insert tree path object) ≡ cond there (length tree) (length tree + 1)
+        → length (insert tree path object) ≤ length tree + 1
     by true is = omega (arith, is)
     by false is = omega (arith, is)
 
 removed_size : (tree : Tree) (path : Path) → length (remove tree path) ≤ length tree + 1
-removed_size tree path = omega (arith, length-filtered (λ (e : Path × Node). not (same_path path e.0)) tree)
+removed_size tree path = omega (arith, length-filtered (λ (e : Path × Object). not (same_path path e.0)) tree)
 
 -- what is known of a call on a path that is not refused
-abbrev LeavesAt : Tree → Path → Option Node → Changed → Type 0
-LeavesAt tree path node changed =
-    IfOk changed (λ done. (q : Path) → lookup done.1 q ≡ cond (same_path q path) node (lookup tree q))
+abbrev LeavesAt : Tree → Path → Option Object → Changed → Type 0
+LeavesAt tree path object changed =
+    IfOk changed (λ done. (q : Path) → lookup done.1 q ≡ cond (same_path q path) object (lookup tree q))
 
-done_at : (tree next : Tree) (call : Change) (path : Path) (node : Option Node) (given : Answer)
+done_at : (tree next : Tree) (call : Change) (path : Path) (object : Option Object) (given : Answer)
     (changed : Changed) → IsTree tree → changed ≡ Ok (given, next) → change tree call ≡ changed
-    → LeavesAt tree path node changed → length next ≤ length tree + 1 → IsDoneAt tree call path node
-done_at tree next call path node given changed t made called leaves size =
+    → LeavesAt tree path object changed → length next ≤ length tree + 1 → IsDoneAt tree call path object
+done_at tree next call path object given changed t made called leaves size =
     let done : change tree call ≡ Ok (given, next) = called ∙ made in
     record {
       given = given;
       next = next;
       done = done;
       is_tree = change_then_tree tree call given next t done;
-      nodes = subst (LeavesAt tree path node) made leaves;
+      objects = subst (LeavesAt tree path object) made leaves;
       size = size;
     }
 
@@ -166,15 +166,15 @@ rmdir_done tree bytes path t named below_root found none =
     (ap (λ (r : Result Path VolError). and_then r (rmdir tree)) named)
     (rmdirs_remove_one tree path) (removed_size tree path)
 
-create_is : (tree : Tree) (node : Node) (path : Path) → walk tree path ≡ Ok tt → lookup tree path ≡ None
-    → length tree ≤ path_limit → create tree node path ≡ Ok (answer.Done, insert tree path node)
-create_is tree node path walked free room =
-    let made : Changed = Ok (answer.Done, insert tree path node) in
+create_is : (tree : Tree) (object : Object) (path : Path) → walk tree path ≡ Ok tt → lookup tree path ≡ None
+    → length tree ≤ path_limit → create tree object path ≡ Ok (answer.Done, insert tree path object)
+create_is tree object path walked free room =
+    let made : Changed = Ok (answer.Done, insert tree path object) in
     let judged : Bool → Changed = λ full. refuse_if full error.TooBig made in
     let fits = nat_lt path_limit (length tree) in
     ap (λ (r : Result (Unit {0}) VolError).
     and_then r (λ _. refuse_if (is_some (lookup tree path)) error.Exists (judged fits))) walked
-    ∙ ap (λ (o : Option Node). refuse_if (is_some o) error.Exists (judged fits)) free
+    ∙ ap (λ (o : Option Object). refuse_if (is_some o) error.Exists (judged fits)) free
     ∙ ap judged (le-ltb path_limit (length tree) room)
 
 pub create_done : (tree : Tree) (bytes : List ℕ) (path : Path) → IsTree tree → path_of bytes ≡ Ok path

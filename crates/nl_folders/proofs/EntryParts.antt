@@ -9,8 +9,8 @@ use Rattle.std.specs.Option.{option_map}
 use Rattle.std.specs.FinMap.Entries.{below_all}
 use Rattle.std.proofs.lemmas.Bool.{and_from, and_parts, cases_order}
 use Rattle.std.proofs.lemmas.List.{drop_more, drop-drop}
-use Rattle.nl_types.specs.declared.reply.Node.{Node}
-use Rattle.nl_types.specs.declared.reply.Node.TheVariants.{Dir}
+use Rattle.nl_types.specs.declared.reply.Object.{Object}
+use Rattle.nl_types.specs.declared.reply.Object.TheVariants.{Dir}
 use Rattle.nl_types.specs.Plain.Paths.{Name, Path, name_cmp, path_cmp, same_name, same_path, is_within}
 use Rattle.nl_types.specs.Plain.Trees.{Tree, lookup}
 use Rattle.nl_types.specs.Facts.Booleans.{not_true}
@@ -28,7 +28,7 @@ use Rattle.nl_folders.specs.Private.Sides.{IsPart, path_at}
 pub places_less : (entries : Tree) (i j : ℕ) → is_sorted path_cmp entries ≡ true → i < j → j < length entries
     → path_cmp (path_at entries i) (path_at entries j) ≡ Less
 places_less entries i j sorted earlier within =
-    let d : Path × Node = ([], Dir) in
+    let d : Path × Object = ([], Dir) in
     let first = get_or entries i d in
     let rest = drop (i + 1) entries in
     let here : drop i entries ≡ first ∷ rest = drop_more entries i d (omega (arith, earlier, within)) in
@@ -133,7 +133,7 @@ part_ends entries start end sorted some within inside ends = record {
         ∙ ap ordering_reverse (places_less entries i j sorted earlier also))
 
 -- a test that holds from one place on for so many entries keeps these
-filter_part : (test : Path × Node → Bool) (entries : Tree) (start count : ℕ)
+filter_part : (test : Path × Object → Bool) (entries : Tree) (start count : ℕ)
     → ((k : ℕ) → start ≤ k → k < start + count → k < length entries → test (get_or entries k ([], Dir)) ≡ true)
     → ((k : ℕ) → k < start → k < length entries → test (get_or entries k ([], Dir)) ≡ false)
     → ((k : ℕ) → start + count ≤ k → k < length entries → test (get_or entries k ([], Dir)) ≡ false)

@@ -3,7 +3,7 @@ use Rattle.std.proofs.Common.{◌≡◌, ℕ, ◌+◌, ◌-◌, ◌<◌, ◌≤�
 use Rattle.std.specs.declared.alloc.AllocError.{AllocError}
 use Rattle.std.specs.FinMap.{is_sorted}
 use Rattle.nl_types.specs.declared.event.Change.{Change}
-use Rattle.nl_types.specs.declared.reply.Node.{Node}
+use Rattle.nl_types.specs.declared.reply.Object.{Object}
 use Rattle.nl_types.specs.Plain.Paths.{Path, path_cmp, same_path, is_within}
 use Rattle.nl_types.specs.Plain.Trees.{Tree, lookup}
 use Rattle.nl_types.specs.Facts.CallLookups.{same_lookups_are_one_tree}
@@ -12,8 +12,8 @@ use Rattle.nl_types.specs.declared.error.VolError.{VolError}
 use Rattle.std.specs.Result.{result_unwrap_or}
 use Rattle.std.proofs.lemmas.Bool.{and_parts, not-false, not-true, or_left, or_right}
 use Rattle.std.proofs.lemmas.List.{drop_all, nil_from_length}
-use Rattle.nl_folders.proofs.NodesPut.{node_put}
-use Rattle.nl_folders.proofs.NeededCalls.{kept_behind, needed_keep, needed_there, node_needed, node_some, removal_needed}
+use Rattle.nl_folders.proofs.ObjectsPut.{object_put}
+use Rattle.nl_folders.proofs.NeededCalls.{kept_behind, needed_keep, needed_there, object_needed, object_some, removal_needed}
 use Rattle.nl_folders.proofs.PlanSteps.{IsJudgedBy, alike, alike_on, gone_differs, gone_on, kept_on, left_is, left_itself, may_stand, none_left, put_on, reached_last, removal_done}
 use Rattle.nl_folders.proofs.SortedTrees.{entry_found, path_read, place_is, taken_is}
 use Rattle.nl_folders.proofs.StepsDone.{not_come_there, not_gone}
@@ -26,8 +26,8 @@ use Rattle.nl_folders.specs.declared.plans.Stage.TheVariants.{Clearing, Making, 
 use Rattle.nl_folders.specs.Differences.{difference_of}
 use Rattle.nl_folders.specs.Facts.CallLists.{after_both, after_one}
 use Rattle.nl_folders.specs.Plans.{AreWhereTheyDiffer, GoesOn, KeepMoved, KeepMovedBy, LeadOn, Progress, Reached, StaysMoved, begun, left_of, tree_after_all}
-use Rattle.nl_folders.specs.Private.Rewriting.{PutsNode}
-use Rattle.nl_folders.specs.Private.Sides.{AreChosen, AreMatched, AreSteps, TwoSides, calls_of, has_come, has_gone, node_after, path_at}
+use Rattle.nl_folders.specs.Private.Rewriting.{PutsObject}
+use Rattle.nl_folders.specs.Private.Sides.{AreChosen, AreMatched, AreSteps, TwoSides, calls_of, has_come, has_gone, object_after, path_at}
 use Rattle.nl_folders.specs.Private.Stages.{AreNeededAt, BeginsOtherwise, BeginsUnwanted, HandsOut, IsStage, IsToMakeAt, IsUnwantedAt, NeedsNoCall, moved_of, progress_by, progress_of, removal_of, steps_from}
 use Rattle.nl_folders.specs.Spelled.{IsNameable}
 
@@ -39,33 +39,33 @@ module _ (s : TwoSides) (p : IsNameable s.present) (w : IsNameable s.wanted) (c 
   judged_alone = record {
     root = c.done.is_tree.root;
     others = λ q none.
-        ap (λ (o : Option Node). left_of o (lookup s.wanted q)) (c.done.nodes q)
+        ap (λ (o : Option Object). left_of o (lookup s.wanted q)) (c.done.objects q)
         ∙ left_alike (has_come s.wanted s.steps q) (has_gone s.present s.steps q) (lookup s.wanted q)
         (lookup s.present q) none
-        ∙ sym (c.done.nodes q);
+        ∙ sym (c.done.objects q);
   }
     where
-      itself : (o : Option Node) → left_of o o ≡ o
+      itself : (o : Option Object) → left_of o o ≡ o
       itself None = refl
-      itself (Some node) = left_itself node
+      itself (Some object) = left_itself object
 
-      left_alike : (come gone : Bool) (wanted present : Option Node) → present ≡ None
+      left_alike : (come gone : Bool) (wanted present : Option Object) → present ≡ None
           → left_of (cond come wanted (cond gone None present)) wanted ≡ cond come wanted (cond gone None present)
       left_alike true gone wanted present none = itself wanted
       left_alike false true wanted present none = refl
       left_alike false false wanted present none =
-          ap (λ (o : Option Node). left_of o wanted) none ∙ sym none
+          ap (λ (o : Option Object). left_of o wanted) none ∙ sym none
 
   -- an entry that has gone stands no more, and another one stands
-  stands_if : (k : ℕ) (e : Path × Node) → k < length s.present → e ≡ get_or s.present k e
+  stands_if : (k : ℕ) (e : Path × Object) → k < length s.present → e ≡ get_or s.present k e
       → lookup (moved_of s) e.0 ≡ cond (slice_index_or s.gone k false) None (Some e.1)
   stands_if k e within is =
-      let path = path_read s.present k e within ∙ ap (λ (x : Path × Node). x.0) (sym is) in
+      let path = path_read s.present k e within ∙ ap (λ (x : Path × Object). x.0) (sym is) in
       let there : lookup s.present e.0 ≡ Some e.1 =
       entry_found s.present (drop (k + 1) s.present) e k p.is_tree.ordered (place_is s.present k e within is) in
       let flag : has_gone s.present s.steps e.0 ≡ slice_index_or s.gone k false =
       ap (has_gone s.present s.steps) (sym path) ∙ sym (c.gone k within) in
-      c.done.nodes e.0
+      c.done.objects e.0
       ∙ ap (λ b.
       cond b (lookup s.wanted e.0) (cond (has_gone s.present s.steps e.0) None (lookup s.present e.0)))
       (not_come_there s.present s.wanted p w s.steps e.0 c.steps_are (ap is_some there))
@@ -73,26 +73,26 @@ module _ (s : TwoSides) (p : IsNameable s.present) (w : IsNameable s.wanted) (c 
       ∙ ap (cond (slice_index_or s.gone k false) None) there
 
   -- one that has come stands as it is wanted, and where another one is wanted nothing has moved
-  comes_if : (k : ℕ) (f : Path × Node) → k < length s.wanted → f ≡ get_or s.wanted k f
+  comes_if : (k : ℕ) (f : Path × Object) → k < length s.wanted → f ≡ get_or s.wanted k f
       → lookup (moved_of s) f.0 ≡ cond (slice_index_or s.come k false) (Some f.1) (lookup s.present f.0)
   comes_if k f within is =
-      let path = path_read s.wanted k f within ∙ ap (λ (x : Path × Node). x.0) (sym is) in
+      let path = path_read s.wanted k f within ∙ ap (λ (x : Path × Object). x.0) (sym is) in
       let there : lookup s.wanted f.0 ≡ Some f.1 =
       entry_found s.wanted (drop (k + 1) s.wanted) f k w.is_tree.ordered (place_is s.wanted k f within is) in
       let flag : has_come s.wanted s.steps f.0 ≡ slice_index_or s.come k false =
       ap (has_come s.wanted s.steps) (sym path) ∙ sym (c.come k within) in
-      c.done.nodes f.0
+      c.done.objects f.0
       ∙ ap (λ b.
       cond (has_come s.wanted s.steps f.0) (lookup s.wanted f.0) (cond b None (lookup s.present f.0)))
       (not_gone s.present s.wanted p w s.steps f.0 c.steps_are (ap is_some there))
       ∙ ap (λ b. cond b (lookup s.wanted f.0) (lookup s.present f.0)) flag
-      ∙ ap (λ (o : Option Node). cond (slice_index_or s.come k false) o (lookup s.present f.0)) there
+      ∙ ap (λ (o : Option Object). cond (slice_index_or s.come k false) o (lookup s.present f.0)) there
 
 -- ---- moving
 
-differs_if_new : (wanted : Option Node) → is_some wanted ≡ true → is_some (difference_of None wanted) ≡ true
+differs_if_new : (wanted : Option Object) → is_some wanted ≡ true → is_some (difference_of None wanted) ≡ true
 differs_if_new None there = there
-differs_if_new (Some node) there = refl
+differs_if_new (Some object) there = refl
 
 -- each step is to a path that the tree has not
 steps_differ : (present wanted : Tree) (steps : List Step) → AreSteps present wanted steps
@@ -106,7 +106,7 @@ steps_differ present wanted (Make k ∷ steps) are = (
     new : (path : Path) → lookup present path ≡ None → is_some (lookup wanted path) ≡ true
         → is_some (difference_of (lookup present path) (lookup wanted path)) ≡ true
     new path lacks there =
-        ap (λ (o : Option Node). is_some (difference_of o (lookup wanted path))) lacks
+        ap (λ (o : Option Object). is_some (difference_of o (lookup wanted path))) lacks
         ∙ differs_if_new (lookup wanted path) there
 steps_differ present wanted (Relocate m ∷ steps) are = (
   (path_at wanted m.to, (refl, new (path_at wanted m.to) are.0.1.lacks are.0.1.there, tt)),
@@ -116,27 +116,27 @@ steps_differ present wanted (Relocate m ∷ steps) are = (
     new : (path : Path) → lookup present path ≡ None → is_some (lookup wanted path) ≡ true
         → is_some (difference_of (lookup present path) (lookup wanted path)) ≡ true
     new path lacks there =
-        ap (λ (o : Option Node). is_some (difference_of o (lookup wanted path))) lacks
+        ap (λ (o : Option Object). is_some (difference_of o (lookup wanted path))) lacks
         ∙ differs_if_new (lookup wanted path) there
 
 -- before anything moves the tree is the one that is there
 unmoved : (s : TwoSides) (tree : Tree) → Reached (progress_of s Moving) tree → tree ≡ s.present
-unmoved s tree r = same_lookups_are_one_tree tree s.present r.is_tree r.present_tree.is_tree r.nodes
+unmoved s tree r = same_lookups_are_one_tree tree s.present r.is_tree r.present_tree.is_tree r.objects
 
 -- what a step renames stands as it is wanted
 steps_kept : (present wanted moved : Tree) (steps part : List Step)
-    → ((q : Path) → lookup moved q ≡ node_after present wanted steps q) → AreSteps present wanted part
+    → ((q : Path) → lookup moved q ≡ object_after present wanted steps q) → AreSteps present wanted part
     → ((q : Path) → has_come wanted part q ≡ true → has_come wanted steps q ≡ true)
     → KeepMoved moved wanted (calls_of present wanted part)
-steps_kept present wanted moved steps [] nodes are among = tt
-steps_kept present wanted moved steps (Make k ∷ part) nodes are among = (
+steps_kept present wanted moved steps [] objects are among = tt
+steps_kept present wanted moved steps (Make k ∷ part) objects are among = (
   tt,
-  steps_kept present wanted moved steps part nodes are.1 (λ q has.
+  steps_kept present wanted moved steps part objects are.1 (λ q has.
       among q (or_right (same_path q (path_at wanted k)) (has_come wanted part q) has)),
 )
-steps_kept present wanted moved steps (Relocate m ∷ part) nodes are among = (
+steps_kept present wanted moved steps (Relocate m ∷ part) objects are among = (
   (path_at wanted m.to, refl, are.0.1.there, stands),
-  steps_kept present wanted moved steps part nodes are.1 (λ q has.
+  steps_kept present wanted moved steps part objects are.1 (λ q has.
       among q (or_right (is_within (path_at wanted m.to) q) (has_come wanted part q) has)),
 )
   where
@@ -144,7 +144,7 @@ steps_kept present wanted moved steps (Relocate m ∷ part) nodes are among = (
         → lookup moved (path_at wanted m.to ++ rest) ≡ lookup wanted (path_at wanted m.to ++ rest)
     stands rest =
         let q = path_at wanted m.to ++ rest in
-        nodes q
+        objects q
         ∙ ap (λ b. cond b (lookup wanted q) (cond (has_gone present steps q) None (lookup present q)))
         (among q (or_left (is_within (path_at wanted m.to) q) (has_come wanted part q)
         (is_within-append (path_at wanted m.to) rest)))
@@ -156,7 +156,7 @@ moved_reached s left judged m p w none =
       present_tree = p;
       wanted_tree = w;
       is_tree = (m.chosen p w).done.is_tree;
-      nodes = λ q. refl;
+      objects = λ q. refl;
     })
 
 pub steps_handed : (s : TwoSides) (handed : Handed) → AreMatched s
@@ -192,7 +192,7 @@ steps_handed s handed m calls_are some stage_is = record {
               subst (λ (t : Stage). KeepMovedBy (progress_of s t).moved s.wanted handed.calls) (sym stage_is) (
                 c.done.is_tree,
                 subst (KeepMoved (moved_of s) s.wanted) (sym calls_are)
-                    (steps_kept s.present s.wanted (moved_of s) s.steps s.steps c.done.nodes c.steps_are
+                    (steps_kept s.present s.wanted (moved_of s) s.steps s.steps c.done.objects c.steps_are
                     (λ _ has. has)),
               );
         }
@@ -216,8 +216,8 @@ none_moved s calls m calls_are none tree r =
 
 -- ---- clearing
 
--- an entry whose node stays, or has gone, is passed over
-pub kept_passed : (s : TwoSides) (first left : ℕ) (e : Path × Node) → AreMatched s
+-- an entry whose object stays, or has gone, is passed over
+pub kept_passed : (s : TwoSides) (first left : ℕ) (e : Path × Object) → AreMatched s
     → NeedsNoCall s (Clearing first) (Clearing left) → 0 < left → left ≤ length s.present
     → e ≡ get_or s.present (left - 1) e
     → (IsTrue (is_sorted path_cmp s.wanted)
@@ -239,18 +239,18 @@ kept_passed s first left e m so_far some within is stays tree reached =
     (by (slice_index_or s.gone k false) (lookup (moved_of s) e.0) (stands_if s p w c k e inside is)
     (stays w.is_tree.ordered)))
   where
-    by : (gone : Bool) (o : Option Node) → o ≡ cond gone None (Some e.1)
+    by : (gone : Bool) (o : Option Object) → o ≡ cond gone None (Some e.1)
         → (not gone && not (is_some (left_of (Some e.1) (lookup s.wanted e.0)))) ≡ false
         → left_of o (lookup s.wanted e.0) ≡ o
-    by true o is_it kept = ap (λ (x : Option Node). left_of x (lookup s.wanted e.0)) is_it ∙ sym is_it
+    by true o is_it kept = ap (λ (x : Option Object). left_of x (lookup s.wanted e.0)) is_it ∙ sym is_it
     by false o is_it kept =
-        ap (λ (x : Option Node). left_of x (lookup s.wanted e.0)) is_it
+        ap (λ (x : Option Object). left_of x (lookup s.wanted e.0)) is_it
         ∙ left_is e.1 (lookup s.wanted e.0)
         (not-false (is_some (left_of (Some e.1) (lookup s.wanted e.0))) kept)
         ∙ sym is_it
 
--- and the first one whose node has to go is found
-pub unwanted_found : (s : TwoSides) (first left near : ℕ) (e : Path × Node)
+-- and the first one whose object has to go is found
+pub unwanted_found : (s : TwoSides) (first left near : ℕ) (e : Path × Object)
     → NeedsNoCall s (Clearing first) (Clearing left) → 0 < left → left ≤ first → left ≤ length s.present
     → e ≡ get_or s.present (left - 1) e
     → (IsTrue (is_sorted path_cmp s.wanted)
@@ -276,7 +276,7 @@ unwanted_found s first left near e so_far some below within is goes =
           (not (is_some (left_of (Some e.1) (lookup s.wanted e.0)))) (goes sorted)).0;
     }
 
-pub removal_handed : (s : TwoSides) (left : ℕ) (place : Place) (e : Path × Node) (handed : Handed)
+pub removal_handed : (s : TwoSides) (left : ℕ) (place : Place) (e : Path × Object) (handed : Handed)
     → AreMatched s → left ≤ length s.present → IsUnwantedAt s left place → e ≡ get_or s.present place.index e
     → handed.calls ≡ removal_of e.0 e.1 ∷ [] → handed.stage ≡ Clearing place.index
     → HandsOut s (Clearing left) handed
@@ -309,10 +309,10 @@ removal_handed s left place e handed m within u is calls_are stage_is = record {
         let next : Reached (progress_of s (Clearing k)) d.next =
         subst (λ (judged : Tree). Reached (progress_by s (Some (moved_of s)) judged []) d.next) (sym at_place)
         (gone_on s.present (moved_of s) s.wanted j rest tree e k r at_place there gone) in
-        let needed_with : (o : Option Node) → o ≡ Some e.1
+        let needed_with : (o : Option Object) → o ≡ Some e.1
         → AreNeededAt e.0 o (lookup s.wanted e.0) (removal_of e.0 e.1 ∷ []) =
         λ o is_it.
-        subst (λ (x : Option Node). AreNeededAt e.0 x (lookup s.wanted e.0) (removal_of e.0 e.1 ∷ [])) (sym is_it)
+        subst (λ (x : Option Object). AreNeededAt e.0 x (lookup s.wanted e.0) (removal_of e.0 e.1 ∷ [])) (sym is_it)
         (removal_needed e.0 e.1 (lookup s.wanted e.0) (gone_differs e.1 (lookup s.wanted e.0) gone)) in
         let needed = needed_with (lookup s.present e.0) found in
         record {
@@ -338,7 +338,7 @@ removal_handed s left place e handed m within u is calls_are stage_is = record {
 -- ---- making
 
 -- an entry that stands already is passed over
-pub alike_passed : (s : TwoSides) (first k : ℕ) (f : Path × Node) → AreMatched s
+pub alike_passed : (s : TwoSides) (first k : ℕ) (f : Path × Object) → AreMatched s
     → NeedsNoCall s (Making first) (Making k) → k < length s.wanted → f ≡ get_or s.wanted k f
     → (IsTrue (is_sorted path_cmp s.present)
     → (not (slice_index_or s.come k false) && is_some (difference_of (lookup s.present f.0) (Some f.1)))
@@ -358,13 +358,13 @@ alike_passed s first k f m so_far within is same tree reached =
     (alike_on s.present (moved_of s) s.wanted (judged_alone s p w c) tree (drop (k + 1) s.wanted) f k r place
     stands)
   where
-    by : (come : Bool) (o : Option Node) → (not come && is_some (difference_of o (Some f.1))) ≡ false
+    by : (come : Bool) (o : Option Object) → (not come && is_some (difference_of o (Some f.1))) ≡ false
         → cond come (Some f.1) o ≡ Some f.1
     by true o alike_is = refl
     by false o alike_is = alike o f.1 alike_is
 
 -- and the first one that doesn't is found
-pub to_make_found : (s : TwoSides) (first k near : ℕ) (f : Path × Node)
+pub to_make_found : (s : TwoSides) (first k near : ℕ) (f : Path × Object)
     → NeedsNoCall s (Making first) (Making k) → first ≤ k → k < length s.wanted → f ≡ get_or s.wanted k f
     → (IsTrue (is_sorted path_cmp s.present)
     → (not (slice_index_or s.come k false) && is_some (difference_of (lookup s.present f.0) (Some f.1)))
@@ -385,9 +385,9 @@ to_make_found s first k near f so_far behind within is lacks = record {
       (is_some (difference_of (lookup s.present f.0) (Some f.1))) (lacks sorted)).1);
 }
 
-pub addition_handed : (s : TwoSides) (done : ℕ) (place : Place) (f : Path × Node) (o : Option Node)
+pub addition_handed : (s : TwoSides) (done : ℕ) (place : Place) (f : Path × Object) (o : Option Object)
     (handed : Handed) → AreMatched s → IsToMakeAt s done place → f ≡ get_or s.wanted place.index f
-    → (IsTrue (is_sorted path_cmp s.present) → o ≡ lookup s.present f.0) → PutsNode f.0 o f.1 handed.calls
+    → (IsTrue (is_sorted path_cmp s.present) → o ≡ lookup s.present f.0) → PutsObject f.0 o f.1 handed.calls
     → handed.stage ≡ Making (place.index + 1) → HandsOut s (Making done) handed
 addition_handed s done place f o handed m t is found puts stage_is = record {
   leads = goes;
@@ -413,12 +413,12 @@ addition_handed s done place f o handed m t is found puts stage_is = record {
         let same_there : lookup (moved_of s) f.0 ≡ lookup s.present f.0 =
         comes_if s p w c k f t.before is
         ∙ ap (λ b. cond b (Some f.1) (lookup s.present f.0)) (t.lacks sorted) in
-        let put_here : PutsNode f.0 (lookup s.present f.0) f.1 handed.calls =
-        subst (λ (x : Option Node). PutsNode f.0 x f.1 handed.calls) (found sorted) puts in
-        let put_there : PutsNode f.0 (lookup (moved_of s) f.0) f.1 handed.calls =
-        subst (λ (x : Option Node). PutsNode f.0 x f.1 handed.calls) (sym same_there) put_here in
+        let put_here : PutsObject f.0 (lookup s.present f.0) f.1 handed.calls =
+        subst (λ (x : Option Object). PutsObject f.0 x f.1 handed.calls) (found sorted) puts in
+        let put_there : PutsObject f.0 (lookup (moved_of s) f.0) f.1 handed.calls =
+        subst (λ (x : Option Object). PutsObject f.0 x f.1 handed.calls) (sym same_there) put_here in
         let d =
-        node_put tree f.0 (lookup (moved_of s) f.0) f.1 handed.calls
+        object_put tree f.0 (lookup (moved_of s) f.0) f.1 handed.calls
         (may_stand s.present (moved_of s) s.wanted j tree rest f k r at_place) put_there in
         let next : Reached (progress_of s (Making (k + 1))) d.next =
         subst (λ (made : Tree). Reached (progress_by s (Some (moved_of s)) s.present made) d.next)
@@ -427,10 +427,10 @@ addition_handed s done place f o handed m t is found puts stage_is = record {
         let otherwise : is_some (difference_of (lookup s.present f.0) (Some f.1)) ≡ true =
         subst (BeginsOtherwise s.present) at_place t.otherwise sorted in
         let needed : AreNeededAt f.0 (lookup s.present f.0) (lookup s.wanted f.0) handed.calls =
-        subst (λ (x : Option Node). AreNeededAt f.0 (lookup s.present f.0) x handed.calls) (sym sought)
-        (node_needed f.0 (lookup s.present f.0) f.1 handed.calls otherwise put_here) in
+        subst (λ (x : Option Object). AreNeededAt f.0 (lookup s.present f.0) x handed.calls) (sym sought)
+        (object_needed f.0 (lookup s.present f.0) f.1 handed.calls otherwise put_here) in
         record {
-          some = node_some f.0 (lookup s.present f.0) f.1 handed.calls otherwise put_here;
+          some = object_some f.0 (lookup s.present f.0) f.1 handed.calls otherwise put_here;
           next = d.next;
           done = d.done;
           reached = subst (λ (x : Stage). Reached (progress_of s x) d.next) (sym stage_is) next;
@@ -441,7 +441,7 @@ addition_handed s done place f o handed m t is found puts stage_is = record {
               subst (λ (x : Stage). KeepMovedBy (progress_of s x).moved s.wanted handed.calls) (sym stage_is) (
                 c.done.is_tree,
                 needed_keep (moved_of s) s.wanted f.0 handed.calls
-                    (subst (λ (x : Option Node). AreNeededAt f.0 x (lookup s.wanted f.0) handed.calls) (sym same_there)
+                    (subst (λ (x : Option Object). AreNeededAt f.0 x (lookup s.wanted f.0) handed.calls) (sym same_there)
                     needed),
               );
         }

@@ -12,7 +12,7 @@ pub mod DoneCalls
 pub mod Renames
 pub mod StepsDone
 pub mod Choosing
-pub mod NodesPut
+pub mod ObjectsPut
 pub mod PlanSteps
 pub mod PlanLaws
 pub mod NeededCalls

@@ -2,8 +2,8 @@
 use Rattle.std.proofs.Common.{◌≡◌, ℕ, ◌<◌, true, List, [], ◌∷◌, ◌++◌, length, drop, Option, Some, None, refl, sym, ap, ◌∙◌, subst, true≢false, is_some, arith, inl, inr}
 use Rattle.nl_types.specs.declared.event.Change.{Change}
 use Rattle.nl_types.specs.declared.event.Change.TheVariants.{Create, Mkdir, Write, Truncate, Unlink, Rmdir, Rename}
-use Rattle.nl_types.specs.declared.reply.Node.{Node}
-use Rattle.nl_types.specs.declared.reply.Node.TheVariants.{Dir, File}
+use Rattle.nl_types.specs.declared.reply.Object.{Object}
+use Rattle.nl_types.specs.declared.reply.Object.TheVariants.{Dir, File}
 use Rattle.nl_types.specs.Plain.Paths.{Path, is_within}
 use Rattle.nl_types.specs.Plain.Trees.{Tree, IsTree, lookup}
 use Rattle.nl_types.specs.Facts.Booleans.{not_true}
@@ -11,11 +11,11 @@ use Rattle.nl_types.specs.Facts.Lookups.{within_is}
 use Rattle.nl_folders.proofs.PlanLaws.{same_everywhere}
 use Rattle.nl_folders.specs.Differences.{difference_of}
 use Rattle.nl_folders.specs.Plans.{AreWhereTheyDiffer, IsNeededAt, IsOutside, IsWhereTheyDiffer, KeepMoved, KeepMovedBy, KeepsMoved, MovedIsKept, PlanKeepsWhatMoves, StandsAsWanted, StaysMoved, file_bytes, path_in}
-use Rattle.nl_folders.specs.Private.Rewriting.{AreOfOtherBlocks, AreRewrites, IsRewrite, MakesFile, PutsNode}
+use Rattle.nl_folders.specs.Private.Rewriting.{AreOfOtherBlocks, AreRewrites, IsRewrite, MakesFile, PutsObject}
 use Rattle.nl_folders.specs.Private.Stages.{AreNeededAt, IsNoRename, removal_of}
 use Rattle.nl_folders.specs.Spelled.{spelling}
 
-module _ (path : Path) (old new : Option Node) (differs : is_some (difference_of old new) ≡ true) where
+module _ (path : Path) (old new : Option Object) (differs : is_some (difference_of old new) ≡ true) where
   rewrite_named : (limit : ℕ) (call : Change) → IsRewrite path limit call → path_in call ≡ spelling path
   rewrite_named limit (Write named offset bytes) is = is.0
   rewrite_named limit (Truncate named size) is = is.0
@@ -63,45 +63,45 @@ file_some : (path : Path) (bytes : List ℕ) (calls : List Change) → MakesFile
 file_some path bytes [] makes = absurd makes
 file_some path bytes (call ∷ calls) makes = omega arith
 
--- the calls that put a node are all on its path
-pub node_needed : (path : Path) (old : Option Node) (new : Node) (calls : List Change)
-    → is_some (difference_of old (Some new)) ≡ true → PutsNode path old new calls
+-- the calls that put an object are all on its path
+pub object_needed : (path : Path) (old : Option Object) (new : Object) (calls : List Change)
+    → is_some (difference_of old (Some new)) ≡ true → PutsObject path old new calls
     → AreNeededAt path old (Some new) calls
-node_needed path None Dir calls differs puts = directory_needed path None (Some Dir) differs calls puts
-node_needed path None (File new) calls differs puts =
+object_needed path None Dir calls differs puts = directory_needed path None (Some Dir) differs calls puts
+object_needed path None (File new) calls differs puts =
     file_needed path None (Some (File new)) differs new calls refl refl puts
-node_needed path (Some Dir) Dir calls differs puts =
+object_needed path (Some Dir) Dir calls differs puts =
     subst (AreNeededAt path (Some Dir) (Some Dir)) (sym puts) tt
-node_needed path (Some Dir) (File new) calls differs puts =
+object_needed path (Some Dir) (File new) calls differs puts =
     file_needed path (Some Dir) (Some (File new)) differs new calls refl refl puts
-node_needed path (Some (File old)) Dir calls differs puts =
+object_needed path (Some (File old)) Dir calls differs puts =
     directory_needed path (Some (File old)) (Some Dir) differs calls puts
-node_needed path (Some (File old)) (File new) calls differs puts =
+object_needed path (Some (File old)) (File new) calls differs puts =
     rewrites_needed path (Some (File old)) (Some (File new)) differs (length new) calls puts.rewrites puts.others
 
-pub removal_needed : (path : Path) (node : Node) (new : Option Node) → is_some (difference_of (Some node) new) ≡ true
-    → AreNeededAt path (Some node) new (removal_of path node ∷ [])
+pub removal_needed : (path : Path) (object : Object) (new : Option Object) → is_some (difference_of (Some object) new) ≡ true
+    → AreNeededAt path (Some object) new (removal_of path object ∷ [])
 removal_needed path Dir new differs = (((refl, differs, tt), tt), tt)
 removal_needed path (File bytes) new differs = (((refl, differs, tt), tt), tt)
 
 -- and there are some
-pub node_some : (path : Path) (old : Option Node) (new : Node) (calls : List Change)
-    → is_some (difference_of old (Some new)) ≡ true → PutsNode path old new calls → 0 < length calls
-node_some path None Dir calls differs puts =
+pub object_some : (path : Path) (old : Option Object) (new : Object) (calls : List Change)
+    → is_some (difference_of old (Some new)) ≡ true → PutsObject path old new calls → 0 < length calls
+object_some path None Dir calls differs puts =
     subst (λ (c : List Change). 0 < length c) (sym puts) (omega arith)
-node_some path None (File new) calls differs puts = file_some path new calls puts
-node_some path (Some Dir) Dir calls differs puts = absurd (true≢false (sym differs))
-node_some path (Some Dir) (File new) calls differs puts = file_some path new calls puts
-node_some path (Some (File old)) Dir calls differs puts =
+object_some path None (File new) calls differs puts = file_some path new calls puts
+object_some path (Some Dir) Dir calls differs puts = absurd (true≢false (sym differs))
+object_some path (Some Dir) (File new) calls differs puts = file_some path new calls puts
+object_some path (Some (File old)) Dir calls differs puts =
     subst (λ (c : List Change). 0 < length c) (sym puts) (omega arith)
-node_some path (Some (File old)) (File new) [] differs puts =
+object_some path (Some (File old)) (File new) [] differs puts =
     absurd (true≢false
     (sym differs
     ∙ ap (λ (b : List ℕ). is_some (difference_of (Some (File old)) (Some (File b)))) (sym puts.content)
     ∙ same_everywhere (Some (File old))))
-node_some path (Some (File old)) (File new) (call ∷ calls) differs puts = omega arith
+object_some path (Some (File old)) (File new) (call ∷ calls) differs puts = omega arith
 
--- so they are where two trees differ that have these nodes
+-- so they are where two trees differ that have these objects
 pub needed_there : (one other : Tree) (path : Path) (calls : List Change)
     → AreNeededAt path (lookup one path) (lookup other path) calls → AreWhereTheyDiffer one other calls
 needed_there one other path [] are = tt
@@ -169,7 +169,7 @@ outside moved wanted to call stands differs =
           ap (lookup moved) here ∙ stands.3 (drop (length top) path) ∙ ap (lookup wanted) (sym here) in
           true≢false
           (sym differs.1.1
-          ∙ ap (λ (o : Option Node). is_some (difference_of o (lookup wanted path))) same
+          ∙ ap (λ (o : Option Object). is_some (difference_of o (lookup wanted path))) same
           ∙ same_everywhere (lookup wanted path))),
     )
 

@@ -1,8 +1,8 @@
 -- Plans as a whole.
 use Rattle.std.proofs.Common.{◌≡◌, false, [], ◌∷◌, Option, Some, None, refl, ap, sym, ◌∙◌, true≢false, is_some, cond}
 use Rattle.std.proofs.lemmas.Slice.Eq.{bytes_eq-Decides}
-use Rattle.nl_types.specs.declared.reply.Node.{Node}
-use Rattle.nl_types.specs.declared.reply.Node.TheVariants.{Dir, File}
+use Rattle.nl_types.specs.declared.reply.Object.{Object}
+use Rattle.nl_types.specs.declared.reply.Object.TheVariants.{Dir, File}
 use Rattle.nl_types.specs.Plain.Trees.{lookup}
 use Rattle.nl_folders.specs.declared.differences.Difference.{Difference}
 use Rattle.nl_folders.specs.declared.differences.Difference.TheVariants.{Rewritten}
@@ -10,7 +10,7 @@ use Rattle.nl_folders.specs.Differences.{difference_of}
 use Rattle.nl_folders.specs.Plans.{OneTreeNeedsNoCall}
 
 -- nothing differs from itself
-pub same_everywhere : (o : Option Node) → is_some (difference_of o o) ≡ false
+pub same_everywhere : (o : Option Object) → is_some (difference_of o o) ≡ false
 same_everywhere None = refl
 same_everywhere (Some Dir) = refl
 same_everywhere (Some (File bytes)) =

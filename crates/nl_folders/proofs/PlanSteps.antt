@@ -7,8 +7,8 @@ use Rattle.std.specs.FinMap.Entries.{is_sorted-put, length-put}
 use Rattle.std.proofs.lemmas.Option.{same_Some}
 use Rattle.std.proofs.lemmas.Slice.Eq.{bytes_eq-Decides}
 use Rattle.nl_types.specs.declared.event.Change.{Change}
-use Rattle.nl_types.specs.declared.reply.Node.{Node}
-use Rattle.nl_types.specs.declared.reply.Node.TheVariants.{Dir, File}
+use Rattle.nl_types.specs.declared.reply.Object.{Object}
+use Rattle.nl_types.specs.declared.reply.Object.TheVariants.{Dir, File}
 use Rattle.nl_types.specs.Plain.Limits.{path_limit}
 use Rattle.nl_types.specs.Plain.Paths.{Name, Path, path_cmp, path_of, same_path}
 use Rattle.nl_types.specs.Plain.Trees.{Tree, IsTree, lookup, insert}
@@ -17,7 +17,7 @@ use Rattle.nl_types.specs.Facts.Booleans.{holds, is_true}
 use Rattle.nl_types.specs.Facts.CallLookups.{same_lookups_are_one_tree}
 use Rattle.nl_types.specs.Facts.TreeLaws.{path_total, same_path-equal, lookup-insert}
 use Rattle.nl_folders.proofs.DoneCalls.{IsDoneAt, rmdir_done, unlink_done, walk_below, walk_there}
-use Rattle.nl_folders.proofs.NodesPut.{MayStand, Puts, stands_at}
+use Rattle.nl_folders.proofs.ObjectsPut.{MayStand, Puts, stands_at}
 use Rattle.nl_folders.proofs.SortedTrees.{entry_found, found_behind, found_before, found_pushed, no_longer, not_before, not_behind}
 use Rattle.nl_folders.proofs.TreePaths.{child_above, ending_of}
 use Rattle.nl_folders.specs.declared.differences.Difference.{Difference}
@@ -28,24 +28,24 @@ use Rattle.nl_folders.specs.Plans.{Progress, Reached, begun, left_of, standing_a
 use Rattle.nl_folders.specs.Private.Stages.{removal_of}
 use Rattle.nl_folders.specs.Spelled.{spelling, IsNameable}
 
--- ---- nodes
+-- ---- objects
 
--- what is left of a node is the node
-pub left_is : (node : Node) (wanted : Option Node) → is_some (left_of (Some node) wanted) ≡ true
-    → left_of (Some node) wanted ≡ Some node
-left_is node None is = absurd (true≢false (sym is))
+-- what is left of an object is the object
+pub left_is : (object : Object) (wanted : Option Object) → is_some (left_of (Some object) wanted) ≡ true
+    → left_of (Some object) wanted ≡ Some object
+left_is object None is = absurd (true≢false (sym is))
 left_is Dir (Some Dir) is = refl
 left_is Dir (Some (File bytes)) is = absurd (true≢false (sym is))
 left_is (File bytes) (Some Dir) is = absurd (true≢false (sym is))
 left_is (File bytes) (Some (File others)) is = refl
 
-pub none_left : (o : Option Node) → is_some o ≡ false → o ≡ None
+pub none_left : (o : Option Object) → is_some o ≡ false → o ≡ None
 none_left None is = refl
-none_left (Some node) is = absurd (true≢false is)
+none_left (Some object) is = absurd (true≢false is)
 
--- a node that goes differs from what is wanted
-pub gone_differs : (node : Node) (wanted : Option Node) → left_of (Some node) wanted ≡ None
-    → is_some (difference_of (Some node) wanted) ≡ true
+-- an object that goes differs from what is wanted
+pub gone_differs : (object : Object) (wanted : Option Object) → left_of (Some object) wanted ≡ None
+    → is_some (difference_of (Some object) wanted) ≡ true
 gone_differs Dir None gone = refl
 gone_differs (File bytes) None gone = refl
 gone_differs Dir (Some Dir) gone = absurd (true≢false (ap is_some gone))
@@ -53,8 +53,8 @@ gone_differs Dir (Some (File bytes)) gone = refl
 gone_differs (File bytes) (Some Dir) gone = refl
 gone_differs (File bytes) (Some (File others)) gone = absurd (true≢false (ap is_some gone))
 
--- where nothing differs the wanted node stands
-pub alike : (present : Option Node) (wanted : Node) → is_some (difference_of present (Some wanted)) ≡ false
+-- where nothing differs the wanted object stands
+pub alike : (present : Option Object) (wanted : Object) → is_some (difference_of present (Some wanted)) ≡ false
     → present ≡ Some wanted
 alike None wanted is = absurd (true≢false is)
 alike (Some Dir) Dir is = refl
@@ -68,20 +68,20 @@ alike (Some (File old)) (File new) is =
       | false ↦ λ _ told. absurd (true≢false told)
     ] refl is
 
-pub left_itself : (node : Node) → left_of (Some node) (Some node) ≡ Some node
+pub left_itself : (object : Object) → left_of (Some object) (Some object) ≡ Some object
 left_itself Dir = refl
 left_itself (File bytes) = refl
 
 -- of what isn't there nothing is left, and of what is not wanted
-nothing_left : (o : Option Node) → left_of o None ≡ None
+nothing_left : (o : Option Object) → left_of o None ≡ None
 nothing_left None = refl
-nothing_left (Some node) = refl
+nothing_left (Some object) = refl
 
 -- what is left is of a path that is wanted
-left_wanted : (o wanted : Option Node) → is_some (left_of o wanted) ≡ true → is_some wanted ≡ true
+left_wanted : (o wanted : Option Object) → is_some (left_of o wanted) ≡ true → is_some wanted ≡ true
 left_wanted None wanted is = absurd (true≢false (sym is))
-left_wanted (Some node) None is = absurd (true≢false (sym is))
-left_wanted (Some node) (Some wanted) is = refl
+left_wanted (Some object) None is = absurd (true≢false (sym is))
+left_wanted (Some object) (Some wanted) is = refl
 
 or_false : (b : Bool) → (b || false) ≡ b
 or_false true = refl
@@ -97,11 +97,11 @@ pub record IsJudgedBy (present moved wanted : Tree) : Type 0 where
   pub others : (q : Path) → lookup present q ≡ None
       → left_of (lookup moved q) (lookup wanted q) ≡ lookup moved q
 
--- what is left of a node, or the node, where these are one
-judged_by : (there present wanted : Option Node) → (there ≡ None → left_of present wanted ≡ present)
+-- what is left of an object, or the object, where these are one
+judged_by : (there present wanted : Option Object) → (there ≡ None → left_of present wanted ≡ present)
     → cond (is_some there) (left_of present wanted) present ≡ left_of present wanted
 judged_by None present wanted same = sym (same refl)
-judged_by (Some node) present wanted same = refl
+judged_by (Some object) present wanted same = refl
 
 module _ (present moved wanted : Tree) (j : IsJudgedBy present moved wanted) where
   abbrev pub clearing : Tree → Progress
@@ -125,16 +125,16 @@ module _ (present moved wanted : Tree) (j : IsJudgedBy present moved wanted) whe
   -- ---- clearing
 
   -- an entry more is judged, and what isn't wanted of it is gone
-  judged_on : (rest tree next : Tree) (e : Path × Node) → Reached (clearing rest) tree → IsTree next
+  judged_on : (rest tree next : Tree) (e : Path × Object) → Reached (clearing rest) tree → IsTree next
       → ((q : Path)
       → lookup next q
       ≡ cond (same_path q e.0) (left_of (lookup moved e.0) (lookup wanted e.0)) (lookup tree q))
       → Reached (clearing (e ∷ rest)) next
-  judged_on rest tree next e r t nodes = record {
+  judged_on rest tree next e r t objects = record {
     present_tree = r.present_tree;
     wanted_tree = r.wanted_tree;
     is_tree = t;
-    nodes = λ q. nodes q ∙ without q;
+    objects = λ q. objects q ∙ without q;
   }
     where
       without : (q : Path)
@@ -149,16 +149,16 @@ module _ (present moved wanted : Tree) (j : IsJudgedBy present moved wanted) whe
             | true ↦ λ same.
                 sym (ap (λ (p : Path). left_of (lookup moved p) (lookup wanted p))
                 (same_path-equal q e.0 same))
-            | false ↦ λ _. r.nodes q
+            | false ↦ λ _. r.objects q
           ] refl
 
-  module _ (rest tree : Tree) (e : Path × Node) (k : ℕ) (r : Reached (clearing rest) tree)
+  module _ (rest tree : Tree) (e : Path × Object) (k : ℕ) (r : Reached (clearing rest) tree)
       (place : drop k present ≡ e ∷ rest) where
     -- until it is judged, what is there stands
     stands : lookup tree e.0 ≡ lookup moved e.0
     stands =
-        r.nodes e.0
-        ∙ ap (λ (o : Option Node).
+        r.objects e.0
+        ∙ ap (λ (o : Option Object).
         cond (is_some o) (left_of (lookup moved e.0) (lookup wanted e.0)) (lookup moved e.0))
         (not_behind present rest e k r.present_tree.is_tree.ordered place)
 
@@ -180,13 +180,13 @@ module _ (present moved wanted : Tree) (j : IsJudgedBy present moved wanted) whe
       not_wanted : e.1 ≡ Dir → lookup wanted e.0 ≡ Some Dir → ⊥
       not_wanted dir above =
           let kept : left_of (Some e.1) (lookup wanted e.0) ≡ Some Dir =
-          ap (λ (n : Node). left_of (Some n) (lookup wanted e.0)) dir ∙ ap (left_of (Some Dir)) above in
+          ap (λ (n : Object). left_of (Some n) (lookup wanted e.0)) dir ∙ ap (left_of (Some Dir)) above in
           true≢false (sym (ap is_some kept) ∙ ap is_some gone)
 
       -- nothing is wanted in a directory that goes
-      unwanted : e.1 ≡ Dir → (name : Name) (o : Option Node) → lookup wanted (e.0 ++ name ∷ []) ≡ o → o ≡ None
+      unwanted : e.1 ≡ Dir → (name : Name) (o : Option Object) → lookup wanted (e.0 ++ name ∷ []) ≡ o → o ≡ None
       unwanted dir name None is = refl
-      unwanted dir name (Some node) is =
+      unwanted dir name (Some object) is =
           absurd (not_wanted dir (r.wanted_tree.is_tree.parents e.0 name (ap is_some is)))
 
       -- so what is in it has gone before
@@ -194,7 +194,7 @@ module _ (present moved wanted : Tree) (j : IsJudgedBy present moved wanted) whe
       emptied dir name =
           let child = e.0 ++ name ∷ [] in
           let behind = found_behind present rest e k child r.present_tree.is_tree.ordered place (child_above e.0 name) in
-          r.nodes child
+          r.objects child
           ∙ judged_by (lookup rest child) (lookup moved child) (lookup wanted child)
           (λ none. j.others child (behind ∙ none))
           ∙ ap (left_of (lookup moved child)) (unwanted dir name (lookup wanted child) refl)
@@ -210,15 +210,15 @@ module _ (present moved wanted : Tree) (j : IsJudgedBy present moved wanted) whe
               absurd (not_wanted (same_Some e.1 Dir dir) (ap (lookup wanted) is ∙ r.wanted_tree.is_tree.root))
           by (n ∷ p) is = ne_eqb (length (n ∷ p)) 0 (λ none. omega arith)
 
-      removed : (node : Node) → e.1 ≡ node → IsDoneAt tree (removal_of e.0 node) e.0 None
+      removed : (object : Object) → e.1 ≡ object → IsDoneAt tree (removal_of e.0 object) e.0 None
       removed Dir is =
           rmdir_done tree (spelling e.0) e.0 r.is_tree
           named below_root
-          (stands ∙ there ∙ ap (λ (n : Node). Some n) is) (emptied is)
+          (stands ∙ there ∙ ap (λ (n : Object). Some n) is) (emptied is)
       removed (File bytes) is =
           unlink_done tree (spelling e.0) e.0 bytes r.is_tree
           named
-          (stands ∙ there ∙ ap (λ (n : Node). Some n) is)
+          (stands ∙ there ∙ ap (λ (n : Object). Some n) is)
 
       -- what isn't wanted can be removed
       pub removal_done : IsDoneAt tree (removal_of e.0 e.1) e.0 None
@@ -227,32 +227,32 @@ module _ (present moved wanted : Tree) (j : IsJudgedBy present moved wanted) whe
       pub gone_on : Reached (clearing (e ∷ rest)) removal_done.next
       gone_on =
           let left : left_of (lookup moved e.0) (lookup wanted e.0) ≡ None =
-          ap (λ (o : Option Node). left_of o (lookup wanted e.0)) there ∙ gone in
+          ap (λ (o : Option Object). left_of o (lookup wanted e.0)) there ∙ gone in
           judged_on rest tree removal_done.next e r removal_done.is_tree
           (λ q.
-          removal_done.nodes q
-          ∙ ap (λ (o : Option Node). cond (same_path q e.0) o (lookup tree q)) (sym left))
+          removal_done.objects q
+          ∙ ap (λ (o : Option Object). cond (same_path q e.0) o (lookup tree q)) (sym left))
 
   -- ---- making
 
   -- what stands at a path that is not yet made
-  abbrev unmade : Path → Option Node
+  abbrev unmade : Path → Option Object
   unmade q = cond (is_some (lookup present q)) (left_of (lookup moved q) (lookup wanted q)) (lookup moved q)
 
   unmade_is : (q : Path) → unmade q ≡ left_of (lookup moved q) (lookup wanted q)
   unmade_is q = judged_by (lookup present q) (lookup moved q) (lookup wanted q) (j.others q)
 
   -- an entry more is made
-  made_on : (made tree next : Tree) (f : Path × Node) → lookup wanted f.0 ≡ Some f.1
+  made_on : (made tree next : Tree) (f : Path × Object) → lookup wanted f.0 ≡ Some f.1
       → Reached (making made) tree → IsTree next
       → ((q : Path) → lookup next q ≡ cond (same_path q f.0) (Some f.1) (lookup tree q))
       → Reached (making (made ++ f ∷ [])) next
-  made_on made tree next f found r t nodes = record {
+  made_on made tree next f found r t objects = record {
     present_tree = r.present_tree;
     wanted_tree = r.wanted_tree;
     is_tree = t;
-    nodes = λ q.
-        nodes q ∙ with_made q
+    objects = λ q.
+        objects q ∙ with_made q
         ∙ sym (ap (λ b. cond b (lookup wanted q) (unmade q)) (found_pushed made f q));
   }
     where
@@ -269,10 +269,10 @@ module _ (present moved wanted : Tree) (j : IsJudgedBy present moved wanted) whe
                 ∙ ap (lookup wanted) (same_path-equal q f.0 same)
                 ∙ found)
             | false ↦ λ _.
-                r.nodes q ∙ sym (ap (λ b. cond b (lookup wanted q) (unmade q)) (or_false m))
+                r.objects q ∙ sym (ap (λ b. cond b (lookup wanted q) (unmade q)) (or_false m))
           ] refl
 
-  module _ (tree rest : Tree) (f : Path × Node) (k : ℕ) (r : Reached (making (take k wanted)) tree)
+  module _ (tree rest : Tree) (f : Path × Object) (k : ℕ) (r : Reached (making (take k wanted)) tree)
       (place : drop k wanted ≡ f ∷ rest) where
     in_order : is_sorted path_cmp wanted ≡ true
     in_order = r.wanted_tree.is_tree.ordered
@@ -283,8 +283,8 @@ module _ (present moved wanted : Tree) (j : IsJudgedBy present moved wanted) whe
     -- until it is made, what is left of what was there stands
     stands_left : lookup tree f.0 ≡ left_of (lookup moved f.0) (Some f.1)
     stands_left =
-        r.nodes f.0
-        ∙ ap (λ (o : Option Node). cond (is_some o) (lookup wanted f.0) (unmade f.0))
+        r.objects f.0
+        ∙ ap (λ (o : Option Object). cond (is_some o) (lookup wanted f.0) (unmade f.0))
         (not_before wanted rest f k in_order place)
         ∙ unmade_is f.0
         ∙ ap (left_of (lookup moved f.0)) sought
@@ -294,7 +294,7 @@ module _ (present moved wanted : Tree) (j : IsJudgedBy present moved wanted) whe
     alike_on is =
         made_on (take k wanted) tree tree f sought r r.is_tree
         (stands_at tree f.0 (Some f.1)
-        (stands_left ∙ ap (λ (o : Option Node). left_of o (Some f.1)) is ∙ left_itself f.1))
+        (stands_left ∙ ap (λ (o : Option Object). left_of o (Some f.1)) is ∙ left_itself f.1))
 
     -- its directory is made before it
     walked_new : lookup tree f.0 ≡ None → walk tree f.0 ≡ Ok tt
@@ -312,29 +312,29 @@ module _ (present moved wanted : Tree) (j : IsJudgedBy present moved wanted) whe
           let made : lookup (take k wanted) dir ≡ Some Dir =
           found_before wanted rest f k dir in_order place less ∙ above in
           let stands : lookup tree dir ≡ Some Dir =
-          r.nodes dir
-          ∙ ap (λ (o : Option Node). cond (is_some o) (lookup wanted dir) (unmade dir)) made
+          r.objects dir
+          ∙ ap (λ (o : Option Object). cond (is_some o) (lookup wanted dir) (unmade dir)) made
           ∙ above in
           ap (walk tree) ending.2 ∙ walk_below tree dir name r.is_tree stands
     ]
 
-    walked : (o : Option Node) → lookup tree f.0 ≡ o → walk tree f.0 ≡ Ok tt
+    walked : (o : Option Object) → lookup tree f.0 ≡ o → walk tree f.0 ≡ Ok tt
     walked None is = walked_new is
-    walked (Some node) is = walk_there tree f.0 r.is_tree (ap is_some is)
+    walked (Some object) is = walk_there tree f.0 r.is_tree (ap is_some is)
 
     -- all that stands is wanted
     only_wanted : (q : Path) → is_some (lookup tree q) ≡ true → is_some (lookup wanted q) ≡ true
     only_wanted q there =
         by (lookup (take k wanted) q)
-        (sym (ap (λ (o : Option Node). is_some (cond (is_some (lookup (take k wanted) q)) (lookup wanted q) o))
+        (sym (ap (λ (o : Option Object). is_some (cond (is_some (lookup (take k wanted) q)) (lookup wanted q) o))
         (unmade_is q))
-        ∙ sym (ap is_some (r.nodes q)) ∙ there)
+        ∙ sym (ap is_some (r.objects q)) ∙ there)
       where
-        by : (made : Option Node)
+        by : (made : Option Object)
             → is_some (cond (is_some made) (lookup wanted q) (left_of (lookup moved q) (lookup wanted q)))
             ≡ true
             → is_some (lookup wanted q) ≡ true
-        by (Some node) is = is
+        by (Some object) is = is
         by None is = left_wanted (lookup moved q) (lookup wanted q) is
 
     -- so there is room for one more
@@ -344,7 +344,7 @@ module _ (present moved wanted : Tree) (j : IsJudgedBy present moved wanted) whe
         let t = holds _ r.is_tree.ordered in
         let put = length-put path_cmp path_total f.0 f.1 tree t in
         let one_more : length next ≡ length tree + 1 =
-        subst (λ (o : Option Node). length next ≡ cond (is_some o) (length tree) (length tree + 1)) free put in
+        subst (λ (o : Option Object). length next ≡ cond (is_some o) (length tree) (length tree + 1)) free put in
         let fewer =
         no_longer next wanted (is_true _ (is_sorted-put path_cmp path_total f.0 f.1 tree t)) in_order among in
         omega (arith, one_more, fewer, r.wanted_tree.is_tree.count)
@@ -364,13 +364,13 @@ module _ (present moved wanted : Tree) (j : IsJudgedBy present moved wanted) whe
       named = path_of-nameable wanted f.0 r.wanted_tree (ap is_some sought);
       stands = stands_left;
       walked = walked (lookup tree f.0) refl;
-      small = λ bytes is. r.wanted_tree.is_tree.sizes f.0 bytes (sought ∙ ap (λ (n : Node). Some n) is);
+      small = λ bytes is. r.wanted_tree.is_tree.sizes f.0 bytes (sought ∙ ap (λ (n : Object). Some n) is);
       room = roomy;
     }
 
     pub put_on : (calls : List Change) (p : Puts tree f.0 f.1 calls)
         → Reached (making (take k wanted ++ f ∷ [])) p.next
-    put_on calls p = made_on (take k wanted) tree p.next f sought r p.is_tree p.nodes
+    put_on calls p = made_on (take k wanted) tree p.next f sought r p.is_tree p.objects
 
   -- ---- the end
 
@@ -378,12 +378,12 @@ module _ (present moved wanted : Tree) (j : IsJudgedBy present moved wanted) whe
   reached_last tree r =
       same_lookups_are_one_tree tree wanted r.is_tree r.wanted_tree.is_tree
       (λ q.
-      r.nodes q
+      r.objects q
       ∙ ap (cond (is_some (lookup wanted q)) (lookup wanted q)) (unmade_is q)
       ∙ by (lookup wanted q) (lookup moved q))
     where
-      by : (w o : Option Node) → cond (is_some w) w (left_of o w) ≡ w
-      by (Some node) o = refl
+      by : (w o : Option Object) → cond (is_some w) w (left_of o w) ≡ w
+      by (Some object) o = refl
       by None o = nothing_left o
 
 -- ---- the beginning
@@ -394,5 +394,5 @@ reached_first present wanted p w = record {
   present_tree = p;
   wanted_tree = w;
   is_tree = p.is_tree;
-  nodes = λ q. refl;
+  objects = λ q. refl;
 }

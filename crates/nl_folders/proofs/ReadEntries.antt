@@ -1,7 +1,7 @@
 -- What stands in trees and flags, by what code reads of them.
 use Rattle.std.proofs.Common.{◌≡◌, ℕ, Bool, false, not, ◌&&◌, List, get_or, slice_index_or, Option, Some, None, refl, sym, ap, ◌∙◌, subst, is_some, IsTrue}
 use Rattle.std.specs.FinMap.{is_sorted}
-use Rattle.nl_types.specs.declared.reply.Node.{Node}
+use Rattle.nl_types.specs.declared.reply.Object.{Object}
 use Rattle.nl_types.specs.Plain.Paths.{Path, path_cmp}
 use Rattle.nl_types.specs.Plain.Trees.{Tree, lookup}
 use Rattle.nl_folders.specs.Differences.{difference_of}
@@ -13,7 +13,7 @@ none_from None other = refl
 none_from (Some x) other = absurd (other x refl)
 
 -- where a tree and a path are read, what is found there is what stands there
-pub found_there : (tree read : Tree) (path named : Path) (found : Option Node) → read ≡ tree → named ≡ path
+pub found_there : (tree read : Tree) (path named : Path) (found : Option Object) → read ≡ tree → named ≡ path
     → (IsTrue (is_sorted path_cmp read) → found ≡ lookup read named) → IsTrue (is_sorted path_cmp tree)
     → lookup tree path ≡ found
 found_there tree read path named found one other finds sorted =
@@ -22,25 +22,25 @@ found_there tree read path named found one other finds sorted =
     ∙ sym (finds (subst (λ (t : Tree). IsTrue (is_sorted path_cmp t)) (sym one) sorted))
 
 -- an entry of a tree, where that is read
-pub entry_read : (tree read : Tree) (k : ℕ) (e : Path × Node) → read ≡ tree → e ≡ get_or read k e
+pub entry_read : (tree read : Tree) (k : ℕ) (e : Path × Object) → read ≡ tree → e ≡ get_or read k e
     → e ≡ get_or tree k e
 entry_read tree read k e one is = is ∙ ap (λ (t : Tree). get_or t k e) one
 
--- whether a node has to go, and whether one is to be made, by flags and nodes that are read
-pub goes_by_read : (flags read : List Bool) (k : ℕ) (node : Node) (wanted found : Option Node) (goes : Bool)
+-- whether an object has to go, and whether one is to be made, by flags and objects that are read
+pub goes_by_read : (flags read : List Bool) (k : ℕ) (object : Object) (wanted found : Option Object) (goes : Bool)
     → read ≡ flags → wanted ≡ found
-    → goes ≡ (not (slice_index_or read k false) && not (is_some (left_of (Some node) found)))
-    → (not (slice_index_or flags k false) && not (is_some (left_of (Some node) wanted))) ≡ goes
-goes_by_read flags read k node wanted found goes one other is =
-    ap (λ (f : List Bool). not (slice_index_or f k false) && not (is_some (left_of (Some node) wanted))) (sym one)
-    ∙ ap (λ (o : Option Node). not (slice_index_or read k false) && not (is_some (left_of (Some node) o))) other
+    → goes ≡ (not (slice_index_or read k false) && not (is_some (left_of (Some object) found)))
+    → (not (slice_index_or flags k false) && not (is_some (left_of (Some object) wanted))) ≡ goes
+goes_by_read flags read k object wanted found goes one other is =
+    ap (λ (f : List Bool). not (slice_index_or f k false) && not (is_some (left_of (Some object) wanted))) (sym one)
+    ∙ ap (λ (o : Option Object). not (slice_index_or read k false) && not (is_some (left_of (Some object) o))) other
     ∙ sym is
 
-pub lacks_by_read : (flags read : List Bool) (k : ℕ) (node : Node) (present found : Option Node) (lacks : Bool)
+pub lacks_by_read : (flags read : List Bool) (k : ℕ) (object : Object) (present found : Option Object) (lacks : Bool)
     → read ≡ flags → present ≡ found
-    → lacks ≡ (not (slice_index_or read k false) && is_some (difference_of found (Some node)))
-    → (not (slice_index_or flags k false) && is_some (difference_of present (Some node))) ≡ lacks
-lacks_by_read flags read k node present found lacks one other is =
-    ap (λ (f : List Bool). not (slice_index_or f k false) && is_some (difference_of present (Some node))) (sym one)
-    ∙ ap (λ (o : Option Node). not (slice_index_or read k false) && is_some (difference_of o (Some node))) other
+    → lacks ≡ (not (slice_index_or read k false) && is_some (difference_of found (Some object)))
+    → (not (slice_index_or flags k false) && is_some (difference_of present (Some object))) ≡ lacks
+lacks_by_read flags read k object present found lacks one other is =
+    ap (λ (f : List Bool). not (slice_index_or f k false) && is_some (difference_of present (Some object))) (sym one)
+    ∙ ap (λ (o : Option Object). not (slice_index_or read k false) && is_some (difference_of o (Some object))) other
     ∙ sym is

@@ -7,8 +7,8 @@ use Rattle.std.specs.FinMap.{find, is_sorted}
 use Rattle.std.specs.FinMap.Entries.{below_all, length_without, is_sorted-where_key}
 use Rattle.std.proofs.lemmas.Bool.{and_parts, and_from}
 use Rattle.std.proofs.lemmas.List.{drop_more, get_or_default, take_more, take_rest}
-use Rattle.nl_types.specs.declared.reply.Node.{Node}
-use Rattle.nl_types.specs.declared.reply.Node.TheVariants.{Dir}
+use Rattle.nl_types.specs.declared.reply.Object.{Object}
+use Rattle.nl_types.specs.declared.reply.Object.TheVariants.{Dir}
 use Rattle.nl_types.specs.Plain.Paths.{Path, path_cmp, same_path}
 use Rattle.nl_types.specs.Plain.Trees.{Tree, lookup, remove}
 use Rattle.nl_types.specs.Facts.Booleans.{holds, is_true, not_true}
@@ -152,24 +152,24 @@ module _ {X : Type 0} where
       drop_more tree k e within ∙ ap (λ (x : Path × X). x ∷ drop (k + 1) tree) (sym is)
 
 -- its path, by what is read there
-pub path_read : (tree : Tree) (k : ℕ) (e : Path × Node) → k < length tree → path_at tree k ≡ (get_or tree k e).0
-path_read tree k e within = ap (λ (x : Path × Node). x.0) (get_or_default tree k ([], Dir) e within)
+pub path_read : (tree : Tree) (k : ℕ) (e : Path × Object) → k < length tree → path_at tree k ≡ (get_or tree k e).0
+path_read tree k e within = ap (λ (x : Path × Object). x.0) (get_or_default tree k ([], Dir) e within)
 
 -- an entry is found at its path
 pub found_at_place : (tree : Tree) (k : ℕ) → k < length tree → is_sorted path_cmp tree ≡ true
     → lookup tree (path_at tree k) ≡ Some (get_or tree k ([], Dir)).1
 found_at_place tree k within sorted =
-    let e : Path × Node = get_or tree k ([], Dir) in
+    let e : Path × Object = get_or tree k ([], Dir) in
     entry_found tree (drop (k + 1) tree) e k sorted (drop_more tree k ([], Dir) within)
 
 -- and those before the next one
-pub taken_is : (tree : Tree) (k : ℕ) (e : Path × Node) → k < length tree → e ≡ get_or tree k e
+pub taken_is : (tree : Tree) (k : ℕ) (e : Path × Object) → k < length tree → e ≡ get_or tree k e
     → take (k + 1) tree ≡ take k tree ++ e ∷ []
 taken_is tree k e within is =
-    take_more tree k e within ∙ ap (λ (x : Path × Node). take k tree ++ x ∷ []) (sym is)
+    take_more tree k e within ∙ ap (λ (x : Path × Object). take k tree ++ x ∷ []) (sym is)
 
 -- with an entry more, its path is found beside the others
-pub found_pushed : (entries : Tree) (e : Path × Node) (q : Path)
+pub found_pushed : (entries : Tree) (e : Path × Object) (q : Path)
     → is_some (lookup (entries ++ e ∷ []) q) ≡ (is_some (lookup entries q) || same_path q e.0)
 found_pushed [] e q =
     elim (same_path q e.0) as (λ b. is_some (cond b (Some e.1) None) ≡ (false || b))

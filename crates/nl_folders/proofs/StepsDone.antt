@@ -5,7 +5,7 @@ use Rattle.std.proofs.lemmas.Bool.{cases_Bool, cases_lt, or_cases, or_from, or_l
 use Rattle.std.proofs.lemmas.List.{length_push, map_push}
 use Rattle.nl_types.specs.declared.error.VolError.{VolError}
 use Rattle.nl_types.specs.declared.reply.Answer.{Answer}
-use Rattle.nl_types.specs.declared.reply.Node.TheVariants.{Dir}
+use Rattle.nl_types.specs.declared.reply.Object.TheVariants.{Dir}
 use Rattle.nl_types.specs.Plain.Paths.{Name, Path, same_path, is_within}
 use Rattle.nl_types.specs.Plain.Trees.{Tree, IsTree, lookup}
 use Rattle.nl_types.specs.Plain.Calls.{change, walk}
@@ -13,7 +13,7 @@ use Rattle.nl_types.specs.Facts.Booleans.{not_true}
 use Rattle.nl_types.specs.Facts.Lookups.{is_within-append, same_path-itself, within_both, within_is}
 use Rattle.nl_types.specs.Facts.TreeLaws.{same_path-equal}
 use Rattle.nl_folders.proofs.DoneCalls.{IsDoneAt, mkdir_done, walk_below}
-use Rattle.nl_folders.proofs.Renames.{IsRenamed, node_renamed, not_root, rename_done}
+use Rattle.nl_folders.proofs.Renames.{IsRenamed, object_renamed, not_root, rename_done}
 use Rattle.nl_folders.proofs.SortedTrees.{found_at_place}
 use Rattle.nl_folders.proofs.TreePaths.{above_is, ending_of}
 use Rattle.nl_folders.specs.declared.sides.Relocation.{Relocation}
@@ -186,7 +186,7 @@ module _ (s : TwoSides) (p : IsNameable s.present) (w : IsNameable s.wanted) (c 
   untouched : (q : Path) → has_come s.wanted s.steps q ≡ false → has_gone s.present s.steps q ≡ false
       → lookup after q ≡ lookup s.present q
   untouched q not_in not_out =
-      c.done.nodes q
+      c.done.objects q
       ∙ ap (λ b.
       cond b (lookup s.wanted q) (cond (has_gone s.present s.steps q) None (lookup s.present q))) not_in
       ∙ ap (λ b. cond b None (lookup s.present q)) not_out
@@ -195,7 +195,7 @@ module _ (s : TwoSides) (p : IsNameable s.present) (w : IsNameable s.wanted) (c 
   above_stands : (path : Path) → is_some (lookup s.wanted path) ≡ true → HasDirectoryAbove s path
       → (dir : Path) (name : Name) → dir ++ name ∷ [] ≡ path → lookup after dir ≡ Some Dir
   above_stands path there above dir name is =
-      c.done.nodes dir
+      c.done.objects dir
       ∙ by (has_come s.wanted s.steps dir) refl
     where
       wanted_dir : lookup s.wanted dir ≡ Some Dir
@@ -246,7 +246,7 @@ module _ (s : TwoSides) (p : IsNameable s.present) (w : IsNameable s.wanted) (c 
       ≡ cond (has_come s.wanted s.steps q || comes_by s.wanted step q) (lookup s.wanted q)
       (cond (has_gone s.present s.steps q || goes_by s.present step q) None (lookup s.present q)))
       → AreDone s.present s.wanted (s.steps ++ step ∷ [])
-  push_done step given next done t size nodes =
+  push_done step given next done t size objects =
       let all : tree_after_all s.present (calls_of s.present s.wanted (s.steps ++ step ∷ [])) ≡ Ok next =
       ap (tree_after_all s.present) (map_push (call_of s.present s.wanted) s.steps step)
       ∙ after_both s.present after next (calls_of s.present s.wanted s.steps)
@@ -257,9 +257,9 @@ module _ (s : TwoSides) (p : IsNameable s.present) (w : IsNameable s.wanted) (c 
       record {
         done = all ∙ ap (λ (x : Tree). Ok x) (sym is);
         is_tree = subst IsTree (sym is) t;
-        nodes = λ q.
+        objects = λ q.
             ap (λ (x : Tree). lookup x q) is
-            ∙ nodes q
+            ∙ objects q
             ∙ sym (ap (λ b.
             cond b (lookup s.wanted q)
             (cond (has_gone s.present s.steps q || goes_by s.present step q) None (lookup s.present q)))
@@ -290,7 +290,7 @@ module _ (s : TwoSides) (p : IsNameable s.present) (w : IsNameable s.wanted) (c 
     pub made_done : AreDone s.present s.wanted (s.steps ++ Make k ∷ [])
     made_done =
         push_done (Make k) make_done.given make_done.next make_done.done make_done.is_tree make_done.size
-        (λ q. make_done.nodes q ∙ by q)
+        (λ q. make_done.objects q ∙ by q)
       where
         by : (q : Path)
             → cond (same_path q (path_at s.wanted k)) (Some Dir) (lookup after q)
@@ -309,7 +309,7 @@ module _ (s : TwoSides) (p : IsNameable s.present) (w : IsNameable s.wanted) (c 
                   ∙ ap (lookup s.wanted) (same_path-equal q (path_at s.wanted k) same)
                   ∙ may.is_step.0)
               | false ↦ λ _.
-                  c.done.nodes q
+                  c.done.objects q
                   ∙ sym (ap (λ b.
                   cond b (lookup s.wanted q) (cond (out_of || false) None (lookup s.present q))) (or_false in_it)
                   ∙ ap (λ b. cond in_it (lookup s.wanted q) (cond b None (lookup s.present q)))
@@ -441,7 +441,7 @@ module _ (s : TwoSides) (p : IsNameable s.present) (w : IsNameable s.wanted) (c 
     pub relocated_done : AreDone s.present s.wanted (s.steps ++ Relocate m ∷ [])
     relocated_done =
         push_done (Relocate m) part_done.given part_done.next part_done.done part_done.is_tree
-        (omega (arith, part_done.size)) (λ q. part_done.nodes q ∙ into q)
+        (omega (arith, part_done.size)) (λ q. part_done.objects q ∙ into q)
       where
         -- outside its new place
         beside : (q : Path) → is_within (path_at s.wanted m.to) q ≡ false
@@ -461,13 +461,13 @@ module _ (s : TwoSides) (p : IsNameable s.present) (w : IsNameable s.wanted) (c 
                   (not_come s.present s.wanted p w (path_at s.present m.from) s.steps q goes c.steps_are out)
                   ∙ ap (λ b. cond b None (lookup s.present q)) (or_true out_of))
               | false ↦ λ _.
-                  c.done.nodes q
+                  c.done.objects q
                   ∙ sym (ap (λ b. cond in_it (lookup s.wanted q) (cond b None (lookup s.present q)))
                   (or_false out_of))
             ] refl
 
         into : (q : Path)
-            → node_renamed after (path_at s.present m.from) (path_at s.wanted m.to) q
+            → object_renamed after (path_at s.present m.from) (path_at s.wanted m.to) q
             ≡ cond (has_come s.wanted s.steps q || is_within (path_at s.wanted m.to) q) (lookup s.wanted q)
             (cond (has_gone s.present s.steps q || is_within (path_at s.present m.from) q) None
             (lookup s.present q))

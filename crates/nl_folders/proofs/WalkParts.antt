@@ -8,10 +8,10 @@ use Rattle.std.specs.FinMap.Entries.{below_all, find-where_key, is_sorted-where_
 use Rattle.std.proofs.lemmas.Bool.{and_from, and_parts, not-true}
 use Rattle.std.proofs.lemmas.Option.{same_Some}
 use Rattle.nl_types.specs.declared.kind.Kind.{Kind}
-use Rattle.nl_types.specs.declared.reply.Node.{Node}
-use Rattle.nl_types.specs.declared.reply.Node.TheVariants.{Dir, File}
+use Rattle.nl_types.specs.declared.reply.Object.{Object}
+use Rattle.nl_types.specs.declared.reply.Object.TheVariants.{Dir, File}
 use Rattle.nl_types.specs.Plain.Paths.{Name, Path, name_cmp, path_cmp, same_name, same_path, is_within}
-use Rattle.nl_types.specs.Plain.Trees.{Tree, IsTree, lookup, children, node_kind}
+use Rattle.nl_types.specs.Plain.Trees.{Tree, IsTree, lookup, children, object_kind}
 use Rattle.nl_types.specs.Facts.Booleans.{holds, is_true, not_true, or_right}
 use Rattle.nl_types.specs.Facts.Children.{children-sorted, find-children}
 use Rattle.nl_types.specs.Facts.Lookups.{is_within-append, path_cmp-append, same_name-equal, same_name-itself, same_path-itself, within_is}
@@ -23,10 +23,10 @@ use Rattle.nl_folders.specs.Walks.{part_at}
 
 -- ---- entries that pass a test
 
-here : (e : Path × Node) (m : Tree) → is_some (lookup (e ∷ m) e.0) ≡ true
+here : (e : Path × Object) (m : Tree) → is_some (lookup (e ∷ m) e.0) ≡ true
 here e m = ap (λ b. is_some (cond b (Some e.1) (lookup m e.0))) (same_path-itself e.0)
 
-behind : (e : Path × Node) (m : Tree) (q : Path) → is_some (lookup m q) ≡ true
+behind : (e : Path × Object) (m : Tree) (q : Path) → is_some (lookup m q) ≡ true
     → is_some (lookup (e ∷ m) q) ≡ true
 behind e m q there =
     elim (same_path q e.0) as (λ b. is_some (cond b (Some e.1) (lookup m q)) ≡ true)
@@ -140,20 +140,20 @@ and_true true = refl
 and_true false = refl
 
 -- it stands in front
-pub part_begins : (tree : Tree) (top : Path) (node : Node) → is_sorted path_cmp tree ≡ true
-    → lookup tree top ≡ Some node → part_at tree top ≡ (top, node) ∷ filter (λ e. is_below top e.0) tree
-part_begins [] top node sorted there = cc
-part_begins (e ∷ tree) top node sorted there =
+pub part_begins : (tree : Tree) (top : Path) (object : Object) → is_sorted path_cmp tree ≡ true
+    → lookup tree top ≡ Some object → part_at tree top ≡ (top, object) ∷ filter (λ e. is_below top e.0) tree
+part_begins [] top object sorted there = cc
+part_begins (e ∷ tree) top object sorted there =
     let parts = and_parts (below_all path_cmp e.0 tree) (is_sorted path_cmp tree) sorted in
     let all : Tree = part_at tree top in
     let below : Tree = filter (λ x. is_below top x.0) tree in
     elim (same_path top e.0) as (λ b.
-    same_path top e.0 ≡ b → cond b (Some e.1) (lookup tree top) ≡ Some node
+    same_path top e.0 ≡ b → cond b (Some e.1) (lookup tree top) ≡ Some object
     → cond (is_within top e.0) (e ∷ all) all
-    ≡ (top, node) ∷ cond (is_within top e.0 && not (same_path e.0 top)) (e ∷ below) below) [
+    ≡ (top, object) ∷ cond (is_within top e.0 && not (same_path e.0 top)) (e ∷ below) below) [
       | true ↦ λ same at.
           let path : top ≡ e.0 = same_path-equal top e.0 same in
-          let is : e.1 ≡ node = same_Some e.1 node at in
+          let is : e.1 ≡ object = same_Some e.1 object at in
           let inside : is_within top e.0 ≡ true = ap (is_within top) (sym path) ∙ within_itself top in
           let tied : same_path e.0 top ≡ true = ap (λ p. same_path p top) (sym path) ∙ same_path-itself top in
           let rest : all ≡ below =
@@ -164,16 +164,16 @@ part_begins (e ∷ tree) top node sorted there =
           ap (λ b. cond b (e ∷ all) all) inside
           ∙ ap (λ (t : Tree). e ∷ t) rest
           ∙ (λ i. (sym path i, is i) ∷ below)
-          ∙ sym (ap (λ b. (top, node) ∷ cond (b && not (same_path e.0 top)) (e ∷ below) below) inside
-          ∙ ap (λ b. (top, node) ∷ cond (not b) (e ∷ below) below) tied)
+          ∙ sym (ap (λ b. (top, object) ∷ cond (b && not (same_path e.0 top)) (e ∷ below) below) inside
+          ∙ ap (λ b. (top, object) ∷ cond (not b) (e ∷ below) below) tied)
       | false ↦ λ _ later.
           let less = found_later e.0 top tree parts.0 (ap is_some later) in
           let outside : is_within top e.0 ≡ false =
           not_true (is_within top e.0) (λ inside.
           true≢false (sym (ap is_lt less) ∙ within_behind top e.0 inside)) in
           ap (λ b. cond b (e ∷ all) all) outside
-          ∙ part_begins tree top node parts.1 later
-          ∙ sym (ap (λ b. (top, node) ∷ cond (b && not (same_path e.0 top)) (e ∷ below) below) outside)
+          ∙ part_begins tree top object parts.1 later
+          ∙ sym (ap (λ b. (top, object) ∷ cond (b && not (same_path e.0 top)) (e ∷ below) below) outside)
     ] refl there
 
 -- ---- the parts of names
@@ -330,7 +330,7 @@ in_its_names tree dir q t there below =
     above_is tree t down.1 (dir ++ down.0 ∷ []) (subst (λ p. is_some (lookup tree p) ≡ true) path there) in
     found_named dir (children tree dir) down.0 q
     (ap is_some (find-children tree dir down.0)
-    ∙ mapped_some node_kind (lookup tree (dir ++ down.0 ∷ [])) ∙ child)
+    ∙ mapped_some object_kind (lookup tree (dir ++ down.0 ∷ [])) ∙ child)
     (ap (is_within (dir ++ down.0 ∷ [])) path ∙ is_within-append (dir ++ down.0 ∷ []) down.1)
 
 -- it is the directory, and then the parts of its names

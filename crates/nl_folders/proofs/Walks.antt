@@ -12,10 +12,10 @@ use Rattle.nl_types.specs.declared.kind.Kind.{Kind}
 use Rattle.nl_types.specs.declared.kind.Kind.TheVariants.{Directory}
 use Rattle.nl_types.specs.declared.kind.Kind.TheVariants as kind
 use Rattle.nl_types.specs.declared.reply.Named.{Named}
-use Rattle.nl_types.specs.declared.reply.Node.{Node}
-use Rattle.nl_types.specs.declared.reply.Node.TheVariants.{Dir, File}
+use Rattle.nl_types.specs.declared.reply.Object.{Object}
+use Rattle.nl_types.specs.declared.reply.Object.TheVariants.{Dir, File}
 use Rattle.nl_types.specs.Plain.Paths.{Name, Path, name_cmp, path_cmp, same_name, is_within}
-use Rattle.nl_types.specs.Plain.Trees.{Tree, IsTree, lookup, children, node_kind}
+use Rattle.nl_types.specs.Plain.Trees.{Tree, IsTree, lookup, children, object_kind}
 use Rattle.nl_types.specs.Plain.Calls.{and_then, dir_at, file_at, list, named}
 use Rattle.nl_types.specs.Facts.Booleans.{holds, is_true, not_true}
 use Rattle.nl_types.specs.Facts.Children.{children-sorted, find-children}
@@ -97,7 +97,7 @@ other_name n k names below there = not_true (same_name k n) (λ same. apart name
 -- the names of a directory stand in it
 names_stand : (tree : Tree) (dir : Path) (names : List (Name × Kind)) → is_sorted name_cmp names ≡ true
     → ((n : Name) (k : Kind) → find name_cmp n names ≡ Some k
-    → option_map node_kind (lookup tree (dir ++ n ∷ [])) ≡ Some k)
+    → option_map object_kind (lookup tree (dir ++ n ∷ [])) ≡ Some k)
     → StandIn tree (stacked dir (map named names))
 names_stand tree dir [] rise found = tt
 names_stand tree dir (n ∷ names) rise found =
@@ -113,7 +113,7 @@ pub directory_answers : (tree : Tree) (p : Pending) → IsTree tree → p.kind �
     → (names : List Named) × (list tree p.path ≡ Ok names)
 directory_answers tree p t is stands = by (lookup tree p.path) refl (stands ∙ ap Some is)
   where
-    by : (o : Option Node) → lookup tree p.path ≡ o → option_map node_kind o ≡ Some Directory
+    by : (o : Option Object) → lookup tree p.path ≡ o → option_map object_kind o ≡ Some Directory
         → (names : List Named) × (list tree p.path ≡ Ok names)
     by None there at = cc
     by (Some Dir) there at = (map named (children tree p.path), list_there tree p.path t there)
@@ -123,30 +123,30 @@ pub file_answers : (tree : Tree) (p : Pending) → IsTree tree → p.kind ≡ ki
     → (bytes : List ℕ) × (file_at tree p.path ≡ Ok bytes)
 file_answers tree p t is stands = by (lookup tree p.path) refl (stands ∙ ap Some is)
   where
-    by : (o : Option Node) → lookup tree p.path ≡ o → option_map node_kind o ≡ Some kind.File
+    by : (o : Option Object) → lookup tree p.path ≡ o → option_map object_kind o ≡ Some kind.File
         → (bytes : List ℕ) × (file_at tree p.path ≡ Ok bytes)
     by None there at = cc
     by (Some Dir) there at = cc
     by (Some (File bytes)) there at = (bytes, file_there tree p.path bytes t there)
 
 something_stands : (tree : Tree) (p : Pending) → StandsIn tree p
-    → (node : Node) × (lookup tree p.path ≡ Some node)
+    → (object : Object) × (lookup tree p.path ≡ Some object)
 something_stands tree p stands = by (lookup tree p.path) stands
   where
-    by : (o : Option Node) → option_map node_kind o ≡ Some p.kind → (node : Node) × (o ≡ Some node)
+    by : (o : Option Object) → option_map object_kind o ≡ Some p.kind → (object : Object) × (o ≡ Some object)
     by None at = cc
-    by (Some node) at = (node, refl)
+    by (Some object) at = (object, refl)
 
 -- ---- steps
 
 -- the top of the stack is visited, and what its part has behind it is put there
-goes_on : (tree done : Tree) (stack more : List Pending) (next : Pending) (node : Node)
-    → part_at tree next.path ≡ (next.path, node) ∷ ahead tree more → StandIn tree more
-    → IsWalk tree done (stack ++ next ∷ []) → IsWalk tree (done ++ (next.path, node) ∷ []) (stack ++ more)
-goes_on tree done stack more next node part stand w = record {
+goes_on : (tree done : Tree) (stack more : List Pending) (next : Pending) (object : Object)
+    → part_at tree next.path ≡ (next.path, object) ∷ ahead tree more → StandIn tree more
+    → IsWalk tree done (stack ++ next ∷ []) → IsWalk tree (done ++ (next.path, object) ∷ []) (stack ++ more)
+goes_on tree done stack more next object part stand w = record {
   parts =
-      append_assoc done ((next.path, node) ∷ []) (ahead tree (stack ++ more))
-      ∙ ap (λ (t : Tree). done ++ (next.path, node) ∷ t) (ahead-append tree stack more)
+      append_assoc done ((next.path, object) ∷ []) (ahead tree (stack ++ more))
+      ∙ ap (λ (t : Tree). done ++ (next.path, object) ∷ t) (ahead-append tree stack more)
       ∙ ap (λ (t : Tree). done ++ (t ++ ahead tree stack)) (sym part)
       ∙ sym (ap (λ (t : Tree). done ++ t) (ahead-append tree stack (next ∷ [])))
       ∙ w.parts;
@@ -176,9 +176,9 @@ read_step tree done stack next bytes t w is =
     (file_part tree next.path bytes t (read_is tree next.path bytes is)) tt w)
 
 -- a visit of what is on top of the stack goes on with the walk
-pub visited : (tree done : Tree) (old rest new : List Pending) (next : Pending) (node : Node)
-    → IsTree tree → IsWalk tree done old → old ≡ rest ++ next ∷ [] → IsVisit tree next rest new node
-    → IsWalk tree (done ++ (next.path, node) ∷ []) new
+pub visited : (tree done : Tree) (old rest new : List Pending) (next : Pending) (object : Object)
+    → IsTree tree → IsWalk tree done old → old ≡ rest ++ next ∷ [] → IsVisit tree next rest new object
+    → IsWalk tree (done ++ (next.path, object) ∷ []) new
 visited tree done old rest new next Dir t w top visit =
     subst (λ s. IsWalk tree (done ++ (next.path, Dir) ∷ []) s) (sym visit.2)
     (listed_step tree done rest next visit.0 t (subst (λ s. IsWalk tree done s) top w) visit.1)
@@ -191,7 +191,7 @@ visited tree done old rest new next (File bytes) t w top visit =
 pub begun : (tree : Tree) → IsTree tree → IsWalk tree [] (record { path = []; kind = Directory } ∷ [])
 begun tree t = record {
   parts = all_pass (is_within []) tree (λ q there. refl);
-  stand = (ap (option_map node_kind) t.root, tt);
+  stand = (ap (option_map object_kind) t.root, tt);
 }
 
 pub walked_all : (tree done : Tree) → IsWalk tree done [] → done ≡ tree

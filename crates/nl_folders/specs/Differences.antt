@@ -4,27 +4,27 @@ use Rattle.std.specs.Str.{bytes_eq}
 use Rattle.std.specs.Ordering.{is_lt}
 use Rattle.std.specs.FinMap.{find, is_sorted}
 use Rattle.std.specs.FinMap.Entries.{by_order}
-use Rattle.nl_types.specs.declared.reply.Node.{Node}
-use Rattle.nl_types.specs.declared.reply.Node.TheVariants.{Dir, File}
+use Rattle.nl_types.specs.declared.reply.Object.{Object}
+use Rattle.nl_types.specs.declared.reply.Object.TheVariants.{Dir, File}
 use Rattle.nl_types.specs.Plain.Paths.{Path, path_cmp}
 use Rattle.nl_types.specs.Plain.Trees.{Tree, lookup}
 use Rattle.nl_folders.specs.declared.differences.Difference.{Difference}
 use Rattle.nl_folders.specs.declared.differences.Difference.TheVariants.{Added, Removed, Rewritten, Replaced}
 
-abbrev pub same_kind : Node → Node → Bool
+abbrev pub same_kind : Object → Object → Bool
 same_kind Dir Dir = true
 same_kind Dir (File new) = false
 same_kind (File old) Dir = false
 same_kind (File old) (File new) = true
 
-abbrev pub same_node : Node → Node → Bool
-same_node Dir Dir = true
-same_node Dir (File new) = false
-same_node (File old) Dir = false
-same_node (File old) (File new) = bytes_eq old new
+abbrev pub same_object : Object → Object → Bool
+same_object Dir Dir = true
+same_object Dir (File new) = false
+same_object (File old) Dir = false
+same_object (File old) (File new) = bytes_eq old new
 
 -- what differs between what stood somewhere and what stands there
-abbrev pub difference_of : Option Node → Option Node → Option Difference
+abbrev pub difference_of : Option Object → Option Object → Option Difference
 difference_of None None = None
 difference_of None (Some new) = Some Added
 difference_of (Some old) None = Some Removed
@@ -57,7 +57,7 @@ all_added [] = []
 all_added (f ∷ new) = (f.0, Added) ∷ all_added new
 
 -- an old entry beside new ones, where `rest` tells of the old ones behind it and new ones
-abbrev pub beside : Path × Node → (Tree → Differences) → Tree → Differences
+abbrev pub beside : Path × Object → (Tree → Differences) → Tree → Differences
 beside e rest [] = (e.0, Removed) ∷ rest []
 beside e rest (f ∷ new) = by_order (path_cmp e.0 f.0)
     ((e.0, Removed) ∷ rest (f ∷ new))

@@ -1,23 +1,23 @@
 -- Files that are known to be one in two folders, and are not read.
 use Rattle.std.specs.Prelude.{◌≡◌, if◌then◌else◌, IsTrue, Bool, List, [], ℕ, map, Some}
 use Rattle.std.specs.FinMap.{is_sorted}
-use Rattle.nl_types.specs.declared.reply.Node.{Node}
-use Rattle.nl_types.specs.declared.reply.Node.TheVariants.{Dir, File}
+use Rattle.nl_types.specs.declared.reply.Object.{Object}
+use Rattle.nl_types.specs.declared.reply.Object.TheVariants.{Dir, File}
 use Rattle.nl_types.specs.Plain.Paths.{Path, path_cmp}
 use Rattle.nl_types.specs.Plain.Trees.{Tree, IsTree, lookup}
 use Rattle.nl_folders.specs.Differences.{differences}
 
--- a node whose bytes don't count
-abbrev pub without_bytes : Node → Node
+-- an object whose bytes don't count
+abbrev pub without_bytes : Object → Object
 without_bytes Dir = Dir
 without_bytes (File bytes) = File []
 
-abbrev pub passed_node : Bool → Node → Node
-passed_node passes node = if passes then without_bytes node else node
+abbrev pub passed_object : Bool → Object → Object
+passed_object passes object = if passes then without_bytes object else object
 
 -- the tree in which the files that are passed over count as empty
 abbrev pub emptied : (Path → Bool) → Tree → Tree
-emptied known tree = map (λ e. (e.0, passed_node (known e.0) e.1)) tree
+emptied known tree = map (λ e. (e.0, passed_object (known e.0) e.1)) tree
 
 -- each path that is known has a file
 abbrev pub AreFiles : (Path → Bool) → Tree → Type 0

@@ -3,8 +3,8 @@ use Rattle.std.specs.Prelude.{◌≡◌, ◌⊎◌, ℕ, ◌<◌, false, if◌th
 use Rattle.nl_types.specs.declared.error.VolError.{VolError}
 use Rattle.nl_types.specs.declared.event.Change.{Change}
 use Rattle.nl_types.specs.declared.event.Change.TheVariants.{Create, Mkdir, Write, Truncate, Unlink, Rmdir, Rename}
-use Rattle.nl_types.specs.declared.reply.Node.{Node}
-use Rattle.nl_types.specs.declared.reply.Node.TheVariants.{Dir, File}
+use Rattle.nl_types.specs.declared.reply.Object.{Object}
+use Rattle.nl_types.specs.declared.reply.Object.TheVariants.{Dir, File}
 use Rattle.nl_types.specs.Plain.Paths.{Path, is_within}
 use Rattle.nl_types.specs.Plain.Trees.{Tree, IsTree, IsIn, lookup}
 use Rattle.nl_types.specs.Plain.Calls.{and_then, change}
@@ -30,13 +30,13 @@ path_in (Rmdir path) = path
 path_in (Rename from to) = to
 
 -- the bytes of a file, none where nothing or a directory stands
-abbrev pub file_bytes : Option Node → List ℕ
+abbrev pub file_bytes : Option Object → List ℕ
 file_bytes None = []
 file_bytes (Some Dir) = []
 file_bytes (Some (File bytes)) = bytes
 
 -- the call is on a path at which two trees differ, and of a file it writes blocks that differ alone
-abbrev pub IsNeededAt : Path → Option Node → Option Node → Change → Type 0
+abbrev pub IsNeededAt : Path → Option Object → Option Object → Change → Type 0
 IsNeededAt path old new call =
     (path_in call ≡ spelling path)
     × IsTrue (is_some (difference_of old new))
@@ -107,14 +107,14 @@ pub record Planning : Type 0 where
   pub progress : Progress
   pub left : ℕ
 
--- what is left of a node where one is wanted: it goes, unless that is of its kind
-abbrev pub left_of : Option Node → Option Node → Option Node
+-- what is left of an object where one is wanted: it goes, unless that is of its kind
+abbrev pub left_of : Option Object → Option Object → Option Object
 left_of None wanted = None
-left_of (Some node) None = None
-left_of (Some node) (Some wanted) = if same_kind node wanted then Some node else None
+left_of (Some object) None = None
+left_of (Some object) (Some wanted) = if same_kind object wanted then Some object else None
 
 -- what stands at a path by now
-abbrev pub standing_at : Progress → Path → Option Node
+abbrev pub standing_at : Progress → Path → Option Object
 standing_at p q =
     let moved = settled p.present p.moved in
     if is_some (lookup p.made q) then lookup p.wanted q
@@ -126,7 +126,7 @@ pub record Reached (p : Progress) (tree : Tree) : Type 0 where
   pub present_tree : IsNameable p.present
   pub wanted_tree : IsNameable p.wanted
   pub is_tree : IsTree tree
-  pub nodes : (q : Path) → lookup tree q ≡ standing_at p q
+  pub objects : (q : Path) → lookup tree q ≡ standing_at p q
 
 -- There are calls. They are done, and make a tree that the plan has come to then. Each is where the two trees
 -- differ, and what has moved is kept.

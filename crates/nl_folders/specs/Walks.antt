@@ -3,10 +3,10 @@ use Rattle.std.specs.Prelude.{◌≡◌, List, [], ◌∷◌, ◌++◌, Ok, Some
 use Rattle.std.specs.List.{filter}
 use Rattle.std.specs.Option.{option_map}
 use Rattle.nl_types.specs.declared.reply.Named.{Named}
-use Rattle.nl_types.specs.declared.reply.Node.{Node}
-use Rattle.nl_types.specs.declared.reply.Node.TheVariants.{Dir, File}
+use Rattle.nl_types.specs.declared.reply.Object.{Object}
+use Rattle.nl_types.specs.declared.reply.Object.TheVariants.{Dir, File}
 use Rattle.nl_types.specs.Plain.Paths.{Path, is_within}
-use Rattle.nl_types.specs.Plain.Trees.{Tree, lookup, node_kind}
+use Rattle.nl_types.specs.Plain.Trees.{Tree, lookup, object_kind}
 use Rattle.nl_types.specs.Plain.Calls.{file_at, list}
 use Rattle.nl_folders.specs.declared.folder.Pending.{Pending}
 
@@ -30,7 +30,7 @@ ahead tree (p ∷ pending) = ahead tree pending ++ part_at tree p.path
 
 -- something of its kind stands at the path
 abbrev pub StandsIn : Tree → Pending → Type 0
-StandsIn tree p = option_map node_kind (lookup tree p.path) ≡ Some p.kind
+StandsIn tree p = option_map object_kind (lookup tree p.path) ≡ Some p.kind
 
 abbrev pub StandIn : Tree → List Pending → Type 0
 StandIn tree [] = Unit {0}
@@ -42,7 +42,7 @@ pub record IsWalk (tree done : Tree) (pending : List Pending) : Type 0 where
   pub stand : StandIn tree pending
 
 -- a visit of a directory puts its names on the stack, and one of a file reads it
-abbrev pub IsVisit : Tree → Pending → List Pending → List Pending → Node → Type 0
+abbrev pub IsVisit : Tree → Pending → List Pending → List Pending → Object → Type 0
 IsVisit tree next old new Dir =
     (names : List Named) × (list tree next.path ≡ Ok names) × (new ≡ old ++ stacked next.path names)
 IsVisit tree next old new (File bytes) = (file_at tree next.path ≡ Ok bytes) × (new ≡ old)

@@ -5,8 +5,8 @@ ghost use Rattle.nl_folders.specs.Differences.{difference_of, differences, told}
 ghost use Rattle.nl_folders.specs.Private.Merging.{TellsNext};
 
 use crate::paths::{Name, Path, compare, copied, is_same_path};
-use crate::trees::is_same_node;
-use nl_types::{Items, Node};
+use crate::trees::is_same_object;
+use nl_types::{Items, Object};
 use std::alloc::{AllocError, Global};
 use std::cmp::Ordering;
 
@@ -24,34 +24,34 @@ pub enum Difference {
 }
 
 /// What differs between what stood somewhere and what stands there.
-pub fn difference_between(old: Option<&Node>, new: Option<&Node>) -> Option<Difference>
+pub fn difference_between(old: Option<&Object>, new: Option<&Object>) -> Option<Difference>
     ensures { result ≡ difference_of (option_copied old.entry) (option_copied new.entry) }
 {
     match (old, new) {
         (None, None) => None,
         (None, Some(_)) => Some(Difference::Added),
         (Some(_), None) => Some(Difference::Removed),
-        (Some(Node::Dir), Some(Node::Dir)) => None,
-        (Some(Node::File(old)), Some(Node::File(new))) => {
+        (Some(Object::Dir), Some(Object::Dir)) => None,
+        (Some(Object::File(old)), Some(Object::File(new))) => {
             if old.as_slice() == new.as_slice() {
                 None
             } else {
                 Some(Difference::Rewritten)
             }
         }
-        (Some(Node::Dir), Some(Node::File(_))) => Some(Difference::Replaced),
-        (Some(Node::File(_)), Some(Node::Dir)) => Some(Difference::Replaced),
+        (Some(Object::Dir), Some(Object::File(_))) => Some(Difference::Replaced),
+        (Some(Object::File(_)), Some(Object::Dir)) => Some(Difference::Replaced),
     }
 }
 
-fn is_same_entry(one: &(Path, Node), other: &(Path, Node)) -> bool
+fn is_same_entry(one: &(Path, Object), other: &(Path, Object)) -> bool
     ensures { IsTrue result ↔ (one.now ≡ other.now) }
 {
-    is_same_path(one.0.as_slice(), other.0.as_slice()) && is_same_node(&one.1, &other.1)
+    is_same_path(one.0.as_slice(), other.0.as_slice()) && is_same_object(&one.1, &other.1)
 }
 
 /// Whether two trees are one.
-pub fn same_trees(one: &[(Path, Node)], other: &[(Path, Node)]) -> bool
+pub fn same_trees(one: &[(Path, Object)], other: &[(Path, Object)]) -> bool
     ensures { IsTrue result ↔ (one.now ≡ other.now) }
 {
     if one.len() != other.len() {
@@ -82,8 +82,8 @@ fn add(
 fn add_between(
     alloc: Global,
     path: &[Name],
-    old: &Node,
-    new: &Node,
+    old: &Object,
+    new: &Object,
     all: &mut Items<(Path, Difference)>,
 ) -> Result<(), AllocError>
     ensures { OnOk result (all.new ≡ all.old ++ told path.now (difference_of (Some old.now) (Some new.now))) }
@@ -119,8 +119,8 @@ const BOTH: Passed = Passed {
 /// Adds what differs at the least path of both trees. None where nothing is left of them.
 fn add_first(
     alloc: Global,
-    old: &[(Path, Node)],
-    new: &[(Path, Node)],
+    old: &[(Path, Object)],
+    new: &[(Path, Object)],
     all: &mut Items<(Path, Difference)>,
 ) -> Result<Option<Passed>, AllocError>
     ensures { IfOk result (TellsNext old.now new.now all.old all.new) }
@@ -155,8 +155,8 @@ fn add_first(
 /// All that differs from one tree to another, in the order of the paths.
 pub fn all_differences(
     alloc: Global,
-    old: &[(Path, Node)],
-    new: &[(Path, Node)],
+    old: &[(Path, Object)],
+    new: &[(Path, Object)],
 ) -> Result<Items<(Path, Difference)>, AllocError>
     ensures { IfOk result (λ all. all ≡ differences old.now new.now) }
 {

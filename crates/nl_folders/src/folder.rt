@@ -1,7 +1,7 @@
 //! What can be read by paths: a folder of the host, or a checkpoint of a volume.
 ghost use Rattle.std.specs.Prelude.{◌≡◌, ◌++◌, [], ℕ, List, IfErr, IfOk, OnOk, Ok};
 ghost use Rattle.nl_types.specs.declared.reply.Named.{Named};
-ghost use Rattle.nl_types.specs.declared.reply.Node.TheVariants.{Dir};
+ghost use Rattle.nl_types.specs.declared.reply.Object.TheVariants.{Dir};
 ghost use Rattle.nl_types.specs.Plain.Trees.{Tree, IsTree};
 ghost use Rattle.nl_types.specs.Plain.Calls.{file_at, list};
 ghost use Rattle.nl_folders.specs.Refusals.{RefusesPath, RefusesTree};
@@ -9,7 +9,7 @@ ghost use Rattle.nl_folders.specs.Walks.{IsVisit, IsWalk, StandsIn, stacked};
 
 use crate::paths::{Name, Path, copied, with_name};
 use crate::trees::{MOST_PATHS, Tree, is_in_order};
-use nl_types::{Items, Kind, Named, Node, VolError};
+use nl_types::{Items, Kind, Named, Object, VolError};
 use std::alloc::{AllocError, AllocFailed, Global};
 
 /// Why a folder isn't read.
@@ -133,9 +133,9 @@ fn visit<F: Folder>(
     folder: &mut F,
     next: &Pending,
     pending: &mut Vec<Pending>,
-) -> Result<Node, FolderError>
-    ensures visit { IfOk result (λ node. (tree : Tree) → F.shows folder.old tree
-        → IsVisit tree next.now pending.old.items pending.new.items node) }
+) -> Result<Object, FolderError>
+    ensures visit { IfOk result (λ object. (tree : Tree) → F.shows folder.old tree
+        → IsVisit tree next.now pending.old.items pending.new.items object) }
     ensures refused { IfErr result (λ e. (tree : Tree) → IsTree tree → F.shows folder.old tree
         → StandsIn tree next.now → RefusesPath next.now.path e) }
     ensures keeps { F.keeps folder.old folder.new }
@@ -144,11 +144,11 @@ fn visit<F: Folder>(
     match next.kind {
         Kind::File => {
             let bytes = folder.read(alloc, next.path.as_slice())?;
-            Ok(Node::File(bytes))
+            Ok(Object::File(bytes))
         }
         Kind::Directory => {
             visit_directory(alloc, folder, next, pending)?;
-            Ok(Node::Dir)
+            Ok(Object::Dir)
         }
     }
 }
@@ -171,8 +171,8 @@ fn entries<F: Folder>(alloc: Global, folder: &mut F) -> Result<Tree, FolderError
         if tree.len() == MOST_PATHS {
             return Err(FolderError::Refused(VolError::TooBig));
         }
-        let node = visit(alloc, folder, &next, &mut pending)?;
-        tree.push((next.path, node))?;
+        let object = visit(alloc, folder, &next, &mut pending)?;
+        tree.push((next.path, object))?;
     }
     Ok(tree)
 }

@@ -22,4 +22,4 @@ pub use paths::{
     Name, Path, appended, begins_with, compare, copied, is_same_path, spelled, with_name,
 };
 pub use plans::{Plan, planned_calls};
-pub use trees::{Tree, found_at, is_in_order, is_same_kind, is_same_node, part_below};
+pub use trees::{Tree, found_at, is_in_order, is_same_kind, is_same_object, part_below};

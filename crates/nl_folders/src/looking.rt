@@ -9,13 +9,13 @@ ghost use Rattle.nl_types.specs.Plain.Trees.{lookup};
 ghost use Rattle.nl_folders.specs.Private.Looking.{BeginsNotBelow, IsBetween, first_at};
 
 use crate::paths::{Name, Path, compare};
-use nl_types::Node;
+use nl_types::Object;
 
 /// Where a look ended, and what it found.
 #[derive(Clone, Copy, Drop)]
 pub(crate) struct Found<'a> {
     pub(crate) place: usize,
-    pub(crate) node: Option<&'a Node>,
+    pub(crate) object: Option<&'a Object>,
 }
 
 fn is_below<T>(entry: &(Path, T), path: &[Name]) -> bool
@@ -25,7 +25,7 @@ fn is_below<T>(entry: &(Path, T), path: &[Name]) -> bool
 }
 
 /// The first place from one on whose entry isn't below the path.
-fn risen(entries: &[(Path, Node)], from: usize, path: &[Name]) -> usize
+fn risen(entries: &[(Path, Object)], from: usize, path: &[Name]) -> usize
     requires { from ≤ length entries.now }
     ensures within { result ≤ length entries.now }
     ensures ended { BeginsNotBelow path.now (drop result entries.now) }
@@ -39,7 +39,7 @@ fn risen(entries: &[(Path, Node)], from: usize, path: &[Name]) -> usize
 }
 
 /// The last place up to one before which no entry is at the path or behind it.
-fn sunk(entries: &[(Path, Node)], from: usize, path: &[Name]) -> usize
+fn sunk(entries: &[(Path, Object)], from: usize, path: &[Name]) -> usize
     requires within { from ≤ length entries.now }
     requires begins { BeginsNotBelow path.now (drop from entries.now) }
     ensures within { result ≤ length entries.now }
@@ -74,15 +74,15 @@ fn first_at<'a, T>(entries: &'a [(Path, T)], path: &[Name]) -> Option<&'a T>
 }
 
 /// What stands at a path of entries in order. The look begins at a place, and goes up or down from there.
-pub(crate) fn find_near<'a>(entries: &'a [(Path, Node)], near: usize, path: &[Name]) -> Found<'a>
+pub(crate) fn find_near<'a>(entries: &'a [(Path, Object)], near: usize, path: &[Name]) -> Found<'a>
     ensures { IsTrue (is_sorted path_cmp entries.now)
-        → option_copied result.node ≡ lookup entries.now path.now }
+        → option_copied result.object ≡ lookup entries.now path.now }
 {
     let above = risen(entries, near.min(entries.len()), path);
     let place = sunk(entries, above, path);
     Found {
         place,
-        node: first_at(&entries[place..], path),
+        object: first_at(&entries[place..], path),
     }
 }
 

@@ -3,7 +3,7 @@
 ghost use Rattle.std.specs.Prelude.{◌≡◌, ◌+◌, ◌<◌, ◌≤◌, ◌∷◌, ◌++◌, [], IsTrue, length, drop, map, IfOk, IfSome, Some, None};
 ghost use Rattle.std.specs.FinMap.{is_sorted};
 ghost use Rattle.std.specs.Option.{option_copied};
-ghost use Rattle.nl_types.specs.declared.reply.Node.TheVariants.{Dir};
+ghost use Rattle.nl_types.specs.declared.reply.Object.TheVariants.{Dir};
 ghost use Rattle.nl_types.specs.Plain.Limits.{path_limit};
 ghost use Rattle.nl_types.specs.Plain.Paths.{path_cmp};
 ghost use Rattle.nl_types.specs.Plain.Trees.{lookup};
@@ -14,15 +14,15 @@ ghost use Rattle.nl_folders.specs.Spelled.{IsNameable};
 use crate::looking::{find_in, find_near, place_in};
 use crate::paths::{Name, Path, begins_with, compare, is_same_path};
 use crate::sides::{Relocation, Sides, are_free};
-use crate::trees::{MOST_PATHS, is_same_node};
-use nl_types::{Items, Node};
+use crate::trees::{MOST_PATHS, is_same_object};
+use nl_types::{Items, Object};
 use std::alloc::{AllocError, Global};
 use std::cmp::Ordering;
 
 // ---- parts
 
 /// Where the entries end that lie at the path of one of them or below it.
-fn part_end(entries: &[(Path, Node)], start: usize) -> usize
+fn part_end(entries: &[(Path, Object)], start: usize) -> usize
     requires { start < length entries.now }
     ensures some { start < result }
     ensures within { result ≤ length entries.now }
@@ -45,19 +45,24 @@ fn rest_of(path: &[Name], count: usize) -> &[Name]
 }
 
 /// Whether two entries are one but for the front of their paths.
-fn is_same_below(one: &(Path, Node), one_cut: usize, other: &(Path, Node), other_cut: usize) -> bool
+fn is_same_below(
+    one: &(Path, Object),
+    one_cut: usize,
+    other: &(Path, Object),
+    other_cut: usize,
+) -> bool
     ensures { IsTrue result → cut one_cut one.now ≡ cut other_cut other.now }
 {
     let one_rest = rest_of(one.0.as_slice(), one_cut);
     let other_rest = rest_of(other.0.as_slice(), other_cut);
-    is_same_path(one_rest, other_rest) && is_same_node(&one.1, &other.1)
+    is_same_path(one_rest, other_rest) && is_same_object(&one.1, &other.1)
 }
 
 /// Whether two lists of entries are one but for the fronts of their paths.
 fn are_same_below(
-    one: &[(Path, Node)],
+    one: &[(Path, Object)],
     one_cut: usize,
-    other: &[(Path, Node)],
+    other: &[(Path, Object)],
     other_cut: usize,
 ) -> bool
     ensures long { IsTrue result → length one.now ≡ length other.now }
@@ -77,9 +82,9 @@ fn are_same_below(
 /// The part that begins at an entry of the one tree and stands alike at an entry of the other, where each is
 /// in its tree alone.
 fn moved_part(
-    present: &[(Path, Node)],
+    present: &[(Path, Object)],
     from: usize,
-    wanted: &[(Path, Node)],
+    wanted: &[(Path, Object)],
     to: usize,
 ) -> Option<Relocation>
     requires from { from < length present.now }
@@ -107,10 +112,10 @@ fn moved_part(
 
 // ---- directories
 
-fn is_directory(node: Option<&Node>) -> bool
-    ensures { IsTrue result → option_copied node.entry ≡ Some Dir }
+fn is_directory(object: Option<&Object>) -> bool
+    ensures { IsTrue result → option_copied object.entry ≡ Some Dir }
 {
-    matches!(node, Some(Node::Dir))
+    matches!(object, Some(Object::Dir))
 }
 
 /// Whether the directory of a path stands in the tree that is there, or comes by a step.
@@ -133,7 +138,7 @@ fn has_directory_above(sides: &Sides<'_>, path: &[Name]) -> bool
 }
 
 /// Whether a directory is wanted at a path, where nothing stands yet.
-fn is_new_directory(present: &[(Path, Node)], wanted: &[(Path, Node)], path: &[Name]) -> bool
+fn is_new_directory(present: &[(Path, Object)], wanted: &[(Path, Object)], path: &[Name]) -> bool
     ensures { IsTrue result → IsTrue (is_sorted path_cmp present.now)
         → IsTrue (is_sorted path_cmp wanted.now)
         → (lookup wanted.now path.now ≡ Some Dir) × (lookup present.now path.now ≡ None) }
@@ -212,10 +217,10 @@ struct Open {
     before: u64,
 }
 
-fn bytes_of(node: &Node) -> u64 {
-    match node {
-        Node::Dir => 0,
-        Node::File(content) => content.len() as u64,
+fn bytes_of(object: &Object) -> u64 {
+    match object {
+        Object::Dir => 0,
+        Object::File(content) => content.len() as u64,
     }
 }
 
@@ -247,38 +252,38 @@ fn end_parts(
 /// in order a part ends before the next entry that lies no deeper than its first one.
 fn candidates(
     alloc: Global,
-    entries: &[(Path, Node)],
-    others: &[(Path, Node)],
+    entries: &[(Path, Object)],
+    others: &[(Path, Object)],
 ) -> Result<Vec<Candidate>, AllocError> {
     let mut found = Vec::new(alloc);
     let mut open = Vec::new(alloc);
     let mut near = 0;
     let mut before: u64 = 0;
     for place in 0..entries.len() {
-        let (path, node) = &entries[place];
+        let (path, object) = &entries[place];
         let depth = path.len();
         end_parts(depth, place, before, &mut open, &mut found)?;
         let look = find_near(others, near, path.as_slice());
         near = look.place;
-        if look.node.is_none() {
+        if look.object.is_none() {
             open.push(Open {
                 place,
                 depth,
                 before,
             })?;
         }
-        before = before.saturating_add(bytes_of(node));
+        before = before.saturating_add(bytes_of(object));
     }
     end_parts(0, entries.len(), before, &mut open, &mut found)?;
     Ok(found)
 }
 
-fn node_order(one: &Node, other: &Node) -> Ordering {
+fn object_order(one: &Object, other: &Object) -> Ordering {
     match (one, other) {
-        (Node::Dir, Node::Dir) => Ordering::Equal,
-        (Node::Dir, Node::File(_)) => Ordering::Less,
-        (Node::File(_), Node::Dir) => Ordering::Greater,
-        (Node::File(a), Node::File(b)) => match a.len().cmp(&b.len()) {
+        (Object::Dir, Object::Dir) => Ordering::Equal,
+        (Object::Dir, Object::File(_)) => Ordering::Less,
+        (Object::File(_), Object::Dir) => Ordering::Greater,
+        (Object::File(a), Object::File(b)) => match a.len().cmp(&b.len()) {
             Ordering::Less => Ordering::Less,
             Ordering::Equal => a.as_slice().cmp(&b.as_slice()),
             Ordering::Greater => Ordering::Greater,
@@ -287,34 +292,34 @@ fn node_order(one: &Node, other: &Node) -> Ordering {
 }
 
 fn below_order(
-    one: &(Path, Node),
+    one: &(Path, Object),
     one_cut: usize,
-    other: &(Path, Node),
+    other: &(Path, Object),
     other_cut: usize,
 ) -> Ordering {
     let one_rest = rest_of(one.0.as_slice(), one_cut);
     let other_rest = rest_of(other.0.as_slice(), other_cut);
     match compare(one_rest, other_rest) {
         Ordering::Less => Ordering::Less,
-        Ordering::Equal => node_order(&one.1, &other.1),
+        Ordering::Equal => object_order(&one.1, &other.1),
         Ordering::Greater => Ordering::Greater,
     }
 }
 
 /// The entries of a candidate.
-fn part_of(entries: &[(Path, Node)], candidate: Candidate) -> &[(Path, Node)] {
+fn part_of(entries: &[(Path, Object)], candidate: Candidate) -> &[(Path, Object)] {
     let behind = &entries[candidate.place.min(entries.len())..];
     &behind[..candidate.count.min(behind.len())]
 }
 
-fn top_length(part: &[(Path, Node)]) -> usize {
+fn top_length(part: &[(Path, Object)]) -> usize {
     match part {
         [] => 0,
         [top, ..] => top.0.len(),
     }
 }
 
-fn content_order(one: &[(Path, Node)], other: &[(Path, Node)]) -> Ordering {
+fn content_order(one: &[(Path, Object)], other: &[(Path, Object)]) -> Ordering {
     let one_cut = top_length(one);
     let other_cut = top_length(other);
     for place in 0..one.len().min(other.len()) {
@@ -328,9 +333,9 @@ fn content_order(one: &[(Path, Node)], other: &[(Path, Node)]) -> Ordering {
 
 /// The order of candidates: the greatest first, by bytes and then by entries, and those alike side by side.
 fn candidate_order(
-    one_tree: &[(Path, Node)],
+    one_tree: &[(Path, Object)],
     one: Candidate,
-    other_tree: &[(Path, Node)],
+    other_tree: &[(Path, Object)],
     other: Candidate,
 ) -> Ordering {
     let order = other
@@ -368,9 +373,9 @@ fn passed(order: Ordering) -> (usize, usize)
 /// Pairs of candidates that are alike, each in one pair at most.
 fn paired(
     alloc: Global,
-    present: &[(Path, Node)],
+    present: &[(Path, Object)],
     gone: &[Candidate],
-    wanted: &[(Path, Node)],
+    wanted: &[(Path, Object)],
     new: &[Candidate],
 ) -> Result<Vec<Pair>, AllocError> {
     let mut pairs = Vec::new(alloc);
@@ -393,8 +398,8 @@ fn paired(
 
 fn pairs_between(
     alloc: Global,
-    present: &[(Path, Node)],
-    wanted: &[(Path, Node)],
+    present: &[(Path, Object)],
+    wanted: &[(Path, Object)],
 ) -> Result<Vec<Pair>, AllocError> {
     let mut gone = candidates(alloc, present, wanted)?;
     if gone.is_empty() {
@@ -451,8 +456,8 @@ fn choose(sides: &mut Sides<'_>, pair: Pair) -> Result<(), AllocError>
 /// Two trees with the steps for what has moved between them.
 pub(crate) fn sides_of<'a>(
     alloc: Global,
-    present: &'a [(Path, Node)],
-    wanted: &'a [(Path, Node)],
+    present: &'a [(Path, Object)],
+    wanted: &'a [(Path, Object)],
 ) -> Result<Sides<'a>, AllocError>
     ensures present { IfOk result (λ sides. sides.present ≡ present.now) }
     ensures wanted { IfOk result (λ sides. sides.wanted ≡ wanted.now) }

@@ -4,7 +4,7 @@ ghost use Rattle.std.specs.Option.{option_copied};
 ghost use Rattle.nl_types.specs.declared.event.Change.TheVariants.{Mkdir};
 ghost use Rattle.nl_folders.specs.Differences.{difference_of};
 ghost use Rattle.nl_folders.specs.Plans.{AreWhereTheyDiffer, GoesOn, PlanKeepsWhatMoves, PlanReaches, Reached, begun, left_of};
-ghost use Rattle.nl_folders.specs.Private.Rewriting.{PutsNode};
+ghost use Rattle.nl_folders.specs.Private.Rewriting.{PutsObject};
 ghost use Rattle.nl_folders.specs.Private.Stages.{HandsOut, IsStage, IsToMakeAt, IsUnwantedAt, NeedsNoCall, removal_of};
 ghost use Rattle.nl_folders.specs.Private.Sides.{AreMatched, calls_of};
 ghost use Rattle.nl_folders.specs.Spelled.{IsNameable, spelling};
@@ -16,7 +16,7 @@ use crate::paths::{Name, Path, spelled};
 use crate::rewriting::{file_made, rewriting};
 use crate::sides::{Sides, calls_of};
 use crate::trees::is_same_kind;
-use nl_types::{Change, Items, Node};
+use nl_types::{Change, Items, Object};
 use std::alloc::{AllocError, Global};
 use std::marker::Model;
 
@@ -70,18 +70,18 @@ fn next_steps(alloc: Global, sides: &Sides<'_>) -> Result<Option<Handed>, AllocE
 
 // ---- clearing
 
-/// Whether a node has to go: it hasn't moved, and none of its kind is wanted at its path.
-fn has_to_go(has_moved: bool, node: &Node, wanted: Option<&Node>) -> bool
+/// Whether an object has to go: it hasn't moved, and none of its kind is wanted at its path.
+fn has_to_go(has_moved: bool, object: &Object, wanted: Option<&Object>) -> bool
     ensures { result
-        ≡ (not has_moved && not (is_some (left_of (Some node.now) (option_copied wanted.entry)))) }
+        ≡ (not has_moved && not (is_some (left_of (Some object.now) (option_copied wanted.entry)))) }
 {
     match wanted {
         None => !has_moved,
-        Some(wanted) => !has_moved && !is_same_kind(node, wanted),
+        Some(wanted) => !has_moved && !is_same_kind(object, wanted),
     }
 }
 
-/// The last entry before a place whose node has to go.
+/// The last entry before a place whose object has to go.
 fn unwanted_before(sides: &Sides<'_>, left: usize, near: usize) -> Option<Place>
     requires { left ≤ length sides.now.present }
     ensures found { IfSome result (IsUnwantedAt sides.now left) }
@@ -97,7 +97,7 @@ fn unwanted_before(sides: &Sides<'_>, left: usize, near: usize) -> Option<Place>
         let entry = &present[index];
         let found = find_near(wanted, near, entry.0.as_slice());
         near = found.place;
-        if has_to_go(gone[index], &entry.1, found.node) {
+        if has_to_go(gone[index], &entry.1, found.object) {
             return Some(Place { index, near });
         }
         left = index;
@@ -105,13 +105,13 @@ fn unwanted_before(sides: &Sides<'_>, left: usize, near: usize) -> Option<Place>
     None
 }
 
-fn removal(alloc: Global, path: &[Name], node: &Node) -> Result<Change, AllocError>
-    ensures { IfOk result (λ call. call ≡ removal_of path.now node.now) }
+fn removal(alloc: Global, path: &[Name], object: &Object) -> Result<Change, AllocError>
+    ensures { IfOk result (λ call. call ≡ removal_of path.now object.now) }
 {
     let path = spelled(alloc, path)?;
-    match node {
-        Node::Dir => Ok(Change::Rmdir { path }),
-        Node::File(_) => Ok(Change::Unlink { path }),
+    match object {
+        Object::Dir => Ok(Change::Rmdir { path }),
+        Object::File(_) => Ok(Change::Unlink { path }),
     }
 }
 
@@ -142,8 +142,8 @@ fn next_removal(
 
 // ---- making
 
-/// Whether a node is yet to be made: it hasn't come by a step, and something else stands at its path.
-fn is_lacking(has_come: bool, present: Option<&Node>, wanted: &Node) -> bool
+/// Whether an object is yet to be made: it hasn't come by a step, and something else stands at its path.
+fn is_lacking(has_come: bool, present: Option<&Object>, wanted: &Object) -> bool
     ensures { result
         ≡ (not has_come && is_some (difference_of (option_copied present.entry) (Some wanted.now))) }
 {
@@ -165,7 +165,7 @@ fn to_make_from(sides: &Sides<'_>, done: usize, near: usize) -> Option<Place>
         let entry = &wanted[index];
         let found = find_near(present, near, entry.0.as_slice());
         near = found.place;
-        if is_lacking(come[index], found.node, &entry.1) {
+        if is_lacking(come[index], found.object, &entry.1) {
             return Some(Place { index, near });
         }
     }
@@ -185,18 +185,18 @@ fn directory_made(alloc: Global, path: &[Name]) -> Result<Items<Change>, AllocEr
 fn additions(
     alloc: Global,
     path: &[Name],
-    present: Option<&Node>,
-    wanted: &Node,
+    present: Option<&Object>,
+    wanted: &Object,
 ) -> Result<Items<Change>, AllocError>
-    ensures { IfOk result (PutsNode path.now (option_copied present.entry) wanted.now) }
+    ensures { IfOk result (PutsObject path.now (option_copied present.entry) wanted.now) }
 {
     match (present, wanted) {
-        (None, Node::Dir) => directory_made(alloc, path),
-        (None, Node::File(new)) => file_made(alloc, path, new.as_slice()),
-        (Some(Node::Dir), Node::Dir) => Ok(Items::new(alloc)),
-        (Some(Node::Dir), Node::File(new)) => file_made(alloc, path, new.as_slice()),
-        (Some(Node::File(_)), Node::Dir) => directory_made(alloc, path),
-        (Some(Node::File(old)), Node::File(new)) => {
+        (None, Object::Dir) => directory_made(alloc, path),
+        (None, Object::File(new)) => file_made(alloc, path, new.as_slice()),
+        (Some(Object::Dir), Object::Dir) => Ok(Items::new(alloc)),
+        (Some(Object::Dir), Object::File(new)) => file_made(alloc, path, new.as_slice()),
+        (Some(Object::File(_)), Object::Dir) => directory_made(alloc, path),
+        (Some(Object::File(old)), Object::File(new)) => {
             rewriting(alloc, path, old.as_slice(), new.as_slice())
         }
     }
@@ -219,7 +219,7 @@ fn next_addition(
     };
     let entry = &sides.wanted()[place.index];
     let found = find_near(sides.present(), place.near, entry.0.as_slice());
-    let calls = additions(alloc, entry.0.as_slice(), found.node, &entry.1)?;
+    let calls = additions(alloc, entry.0.as_slice(), found.object, &entry.1)?;
     Ok(Some(Handed {
         calls,
         stage: Stage::Making(place.index + 1),
@@ -306,8 +306,8 @@ impl<'a> Plan<'a> {
     /// A plan to make the tree that is there the wanted one.
     pub fn new(
         alloc: Global,
-        present: &'a [(Path, Node)],
-        wanted: &'a [(Path, Node)],
+        present: &'a [(Path, Object)],
+        wanted: &'a [(Path, Object)],
     ) -> Result<Plan<'a>, AllocError>
         ensures begins { IfOk result (λ plan. plan.progress ≡ begun present.now wanted.now) }
         ensures reached { IfOk result (λ plan. IsNameable present.now → IsNameable wanted.now
@@ -344,8 +344,8 @@ impl<'a> Plan<'a> {
 /// All calls of a plan at once. They have all bytes that are to be written once more.
 pub fn planned_calls(
     alloc: Global,
-    present: &[(Path, Node)],
-    wanted: &[(Path, Node)],
+    present: &[(Path, Object)],
+    wanted: &[(Path, Object)],
 ) -> Result<Items<Change>, AllocError>
     ensures reaches { IfOk result (PlanReaches present.now wanted.now) }
     ensures differ { IfOk result (λ calls. IsNameable present.now → IsNameable wanted.now

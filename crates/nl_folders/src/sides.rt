@@ -4,7 +4,7 @@ ghost use Rattle.nl_folders.specs.Private.Sides.{AreFree, AreMatched, IsPlaced, 
 ghost use Rattle.nl_folders.specs.Spelled.{IsNameable};
 
 use crate::paths::{Name, Path, spelled};
-use nl_types::{Change, Items, Node};
+use nl_types::{Change, Items, Object};
 use std::alloc::{AllocError, Global};
 use std::marker::Model;
 
@@ -64,8 +64,8 @@ fn set(flags: &mut Items<bool>, from: usize, to: usize)
 /// Two trees, the steps that were chosen, and flags at the entries of both that need nothing else.
 #[derive(Drop)]
 pub(crate) struct Sides<'a> {
-    present: &'a [(Path, Node)],
-    wanted: &'a [(Path, Node)],
+    present: &'a [(Path, Object)],
+    wanted: &'a [(Path, Object)],
     steps: Items<Step>,
     gone: Items<bool>,
     come: Items<bool>,
@@ -97,8 +97,8 @@ impl<'a> Sides<'a> {
     /// The trees with no step.
     pub(crate) fn new(
         alloc: Global,
-        present: &'a [(Path, Node)],
-        wanted: &'a [(Path, Node)],
+        present: &'a [(Path, Object)],
+        wanted: &'a [(Path, Object)],
     ) -> Result<Sides<'a>, AllocError>
         ensures present { IfOk result (λ sides. sides.present ≡ present.now) }
         ensures wanted { IfOk result (λ sides. sides.wanted ≡ wanted.now) }
@@ -114,14 +114,14 @@ impl<'a> Sides<'a> {
         })
     }
 
-    pub(crate) fn present(&self) -> &'a [(Path, Node)]
+    pub(crate) fn present(&self) -> &'a [(Path, Object)]
         ensures value { result.now ≡ self.now.present }
         ensures told { AreMatched self.now }
     {
         self.present
     }
 
-    pub(crate) fn wanted(&self) -> &'a [(Path, Node)]
+    pub(crate) fn wanted(&self) -> &'a [(Path, Object)]
         ensures value { result.now ≡ self.now.wanted }
         ensures told { AreMatched self.now }
     {
@@ -180,8 +180,8 @@ impl<'a> Sides<'a> {
 
 fn call_of(
     alloc: Global,
-    present: &[(Path, Node)],
-    wanted: &[(Path, Node)],
+    present: &[(Path, Object)],
+    wanted: &[(Path, Object)],
     step: Step,
 ) -> Result<Change, AllocError>
     requires { IsPlaced present.now wanted.now step }

@@ -2,22 +2,22 @@
 ghost use Rattle.std.specs.Prelude.{◌≡◌, ◌++◌, [], ◌∷◌, IsTrue, IfOk, OnOk};
 ghost use Rattle.std.specs.Option.{option_copied};
 ghost use Rattle.nl_types.specs.Plain.Trees.{lookup};
-ghost use Rattle.nl_folders.specs.Differences.{same_kind, same_node, rising};
+ghost use Rattle.nl_folders.specs.Differences.{same_kind, same_object, rising};
 ghost use Rattle.nl_folders.specs.Parts.{part_below};
 
 use crate::paths::{Name, Path, begins_with, compare, copied};
 use nl_types::limits::PATH_LIMIT;
-use nl_types::{Items, Node};
+use nl_types::{Items, Object};
 use std::alloc::{AllocError, Global};
 
 /// The directories and files of a folder with their paths, ascending. The root is among them.
-pub type Tree = Items<(Path, Node)>;
+pub type Tree = Items<(Path, Object)>;
 
 /// The most paths of a tree, the root's included.
 pub(crate) const MOST_PATHS: usize = PATH_LIMIT + 1;
 
 /// Whether the entries stand in the order of their paths, none twice.
-pub fn is_in_order(entries: &[(Path, Node)]) -> bool
+pub fn is_in_order(entries: &[(Path, Object)]) -> bool
     ensures { result ≡ rising entries.now }
 {
     for at in 1..entries.len() {
@@ -31,7 +31,7 @@ pub fn is_in_order(entries: &[(Path, Node)]) -> bool
 }
 
 /// What stands at a path. It looks at one entry after another.
-pub fn found_at<'a>(entries: &'a [(Path, Node)], path: &[Name]) -> Option<&'a Node>
+pub fn found_at<'a>(entries: &'a [(Path, Object)], path: &[Name]) -> Option<&'a Object>
     ensures { option_copied result ≡ lookup entries.now path.now }
 {
     for entry in entries {
@@ -42,27 +42,27 @@ pub fn found_at<'a>(entries: &'a [(Path, Node)], path: &[Name]) -> Option<&'a No
     None
 }
 
-/// Whether two nodes are both directories or both files.
-pub fn is_same_kind(a: &Node, b: &Node) -> bool
+/// Whether two objects are both directories or both files.
+pub fn is_same_kind(a: &Object, b: &Object) -> bool
     ensures { result ≡ same_kind a.now b.now }
 {
     match (a, b) {
-        (Node::Dir, Node::Dir) => true,
-        (Node::File(_), Node::File(_)) => true,
-        (Node::Dir, Node::File(_)) => false,
-        (Node::File(_), Node::Dir) => false,
+        (Object::Dir, Object::Dir) => true,
+        (Object::File(_), Object::File(_)) => true,
+        (Object::Dir, Object::File(_)) => false,
+        (Object::File(_), Object::Dir) => false,
     }
 }
 
-/// Whether two nodes are one, a file by all its bytes.
-pub fn is_same_node(a: &Node, b: &Node) -> bool
-    ensures { result ≡ same_node a.now b.now }
+/// Whether two objects are one, a file by all its bytes.
+pub fn is_same_object(a: &Object, b: &Object) -> bool
+    ensures { result ≡ same_object a.now b.now }
 {
     match (a, b) {
-        (Node::Dir, Node::Dir) => true,
-        (Node::File(one), Node::File(other)) => one.as_slice() == other.as_slice(),
-        (Node::Dir, Node::File(_)) => false,
-        (Node::File(_), Node::Dir) => false,
+        (Object::Dir, Object::Dir) => true,
+        (Object::File(one), Object::File(other)) => one.as_slice() == other.as_slice(),
+        (Object::Dir, Object::File(_)) => false,
+        (Object::File(_), Object::Dir) => false,
     }
 }
 
@@ -75,12 +75,12 @@ fn add_below<T: Drop>(
 ) -> Result<(), AllocError>
     ensures { OnOk result (part.new ≡ part.old ++ part_below (entry ∷ []) top.now) }
 {
-    let (path, node) = entry;
+    let (path, object) = entry;
     if !begins_with(path.as_slice(), top) {
         return Ok(());
     }
     let rest = copied(alloc, &path.as_slice()[top.len()..])?;
-    part.push((rest, node))
+    part.push((rest, object))
 }
 
 /// The entries that lie at a path or below it, with what is left of their paths there.

@@ -7,8 +7,8 @@ use Rattle.nl_folders.specs.Spelled.{joined}
 use Rattle.nl_host.specs.declared.left_out.LeftOut.{LeftOut}
 use Rattle.nl_host.specs.declared.left_out.Reason.{Reason}
 use Rattle.nl_host.specs.declared.left_out.Reason.TheVariants.{NameNoText, TargetNoText}
-use Rattle.nl_manifests.specs.declared.host_tree.HostNode.{HostNode}
-use Rattle.nl_manifests.specs.declared.host_tree.HostNode.TheVariants.{Directory, File, Link}
+use Rattle.nl_manifests.specs.declared.host_tree.HostObject.{HostObject}
+use Rattle.nl_manifests.specs.declared.host_tree.HostObject.TheVariants.{Directory, File, Link}
 use Rattle.nl_manifests.specs.HostTrees.{HostTree}
 
 -- whether a path of the host may have the name: it may stand in a path, and is UTF-8
@@ -42,10 +42,10 @@ abbrev pub left_out_at : (folder : List ℕ) → Path → List Told
 left_out_at folder path = told_if (host_names path + 1 == length path) (host_path folder path, NameNoText)
 
 -- of directories and files
-abbrev pub node_left_out : (folder : List ℕ) → Path → HostNode → List Told
-node_left_out folder path Directory = left_out_at folder path
-node_left_out folder path (File bytes) = left_out_at folder path
-node_left_out folder path (Link target) = []
+abbrev pub object_left_out : (folder : List ℕ) → Path → HostObject → List Told
+object_left_out folder path Directory = left_out_at folder path
+object_left_out folder path (File bytes) = left_out_at folder path
+object_left_out folder path (Link target) = []
 
 -- a link is told too where what it leads to is no text
 abbrev pub target_left_out : (folder : List ℕ) → Path → (target : List ℕ) → List Told
@@ -54,7 +54,7 @@ target_left_out folder path target =
     then told_if (not (is_utf8 target)) (host_path folder path, TargetNoText)
     else left_out_at folder path
 
-abbrev pub link_left_out : (folder : List ℕ) → Path → HostNode → List Told
+abbrev pub link_left_out : (folder : List ℕ) → Path → HostObject → List Told
 link_left_out folder path Directory = []
 link_left_out folder path (File bytes) = []
 link_left_out folder path (Link target) = target_left_out folder path target
@@ -62,5 +62,5 @@ link_left_out folder path (Link target) = target_left_out folder path target
 -- of all entries: directories and files come first
 abbrev pub all_left_out : (folder : List ℕ) → HostTree → List Told
 all_left_out folder entries =
-    flat_map (λ e. node_left_out folder e.0 e.1.node) entries
-    ++ flat_map (λ e. link_left_out folder e.0 e.1.node) entries
+    flat_map (λ e. object_left_out folder e.0 e.1.object) entries
+    ++ flat_map (λ e. link_left_out folder e.0 e.1.object) entries

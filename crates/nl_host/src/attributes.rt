@@ -2,7 +2,7 @@
 use crate::host_paths::{host_path, text_of};
 use crate::left_out::{LeftOut, Reason};
 use nl_folders::Path;
-use nl_manifests::{Attributes, HostEntry, HostNode, Time};
+use nl_manifests::{Attributes, HostEntry, HostObject, Time};
 use std::fs::{FileTimes, Metadata, OpenFile, Permissions};
 use std::os::unix::fs::{MetadataExt, PermissionsExt, lchown};
 use std::rt::Files;
@@ -108,11 +108,11 @@ fn set_one<R: Files>(
     with_owners: bool,
 ) -> Option<Reason> {
     let attributes = entry.attributes?;
-    match &entry.node {
-        HostNode::Link(target) if with_owners => {
+    match &entry.object {
+        HostObject::Link(target) if with_owners => {
             set_link(files, place, target.as_slice(), attributes)
         }
-        HostNode::Link(_) => None,
+        HostObject::Link(_) => None,
         _ => set_all(files, place, attributes, with_owners),
     }
 }

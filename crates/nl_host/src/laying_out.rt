@@ -2,13 +2,13 @@
 ghost use Rattle.std.specs.Prelude.{◌≡◌, ◌+◌, ◌==◌, ◌<◌, ◌++◌, OnOk, length, map, not, string_bytes};
 ghost use Rattle.std.specs.List.{flat_map};
 ghost use Rattle.std.specs.Str.{is_utf8};
-ghost use Rattle.nl_host.specs.HostPaths.{all_left_out, link_left_out, node_left_out, target_left_out, told_if, told_of};
+ghost use Rattle.nl_host.specs.HostPaths.{all_left_out, link_left_out, object_left_out, target_left_out, told_if, told_of};
 ghost use Rattle.nl_host.specs.declared.left_out.Reason.TheVariants.{NameNoText, TargetNoText};
 
 use crate::host_paths::{host_path, text_of};
 use crate::left_out::{LeftOut, Reason};
 use nl_folders::{Name, Path};
-use nl_manifests::{HostEntry, HostNode};
+use nl_manifests::{HostEntry, HostObject};
 use std::fs::{DirBuilder, OpenOptions};
 use std::io::{self, Write};
 use std::os::unix::fs::{DirBuilderExt, OpenOptionsExt, symlink};
@@ -39,10 +39,10 @@ fn put_file<R: Files>(files: &R, path: &str, bytes: &[u8], is_private: bool) -> 
 
 fn put<R: Files>(files: &R, path: &str, entry: &HostEntry) -> io::Result<()> {
     let is_private = entry.attributes.is_some();
-    match &entry.node {
-        HostNode::Directory => put_directory(files, path, is_private),
-        HostNode::File(bytes) => put_file(files, path, bytes.as_slice(), is_private),
-        HostNode::Link(_) => Ok(()),
+    match &entry.object {
+        HostObject::Directory => put_directory(files, path, is_private),
+        HostObject::File(bytes) => put_file(files, path, bytes.as_slice(), is_private),
+        HostObject::Link(_) => Ok(()),
     }
 }
 
@@ -83,7 +83,7 @@ fn note_name(
 }
 
 /// Makes a directory or a file at its path in a folder, or leaves it out where a name of it may not stand there.
-fn lay_out_node<R: AllocGlobal + Files>(
+fn lay_out_object<R: AllocGlobal + Files>(
     rt: &R,
     folder: &str,
     path: &[Name],
@@ -91,9 +91,9 @@ fn lay_out_node<R: AllocGlobal + Files>(
     left_out: &mut Vec<LeftOut>,
 ) -> io::Result<()>
     ensures { OnOk result (map told_of left_out.new.items
-        ≡ map told_of left_out.old.items ++ node_left_out folder.now path.now entry.now.node) }
+        ≡ map told_of left_out.old.items ++ object_left_out folder.now path.now entry.now.object) }
 {
-    if matches!(entry.node, HostNode::Link(_)) {
+    if matches!(entry.object, HostObject::Link(_)) {
         return Ok(());
     }
     let (place, count) = host_path(rt.alloc(), folder, path)?;
@@ -106,7 +106,7 @@ fn lay_out_node<R: AllocGlobal + Files>(
     Ok(())
 }
 
-fn lay_out_nodes<R: AllocGlobal + Files>(
+fn lay_out_objects<R: AllocGlobal + Files>(
     rt: &R,
     folder: &str,
     entries: &[(Path, HostEntry)],
@@ -114,10 +114,10 @@ fn lay_out_nodes<R: AllocGlobal + Files>(
 ) -> io::Result<()>
     ensures { OnOk result (map told_of left_out.new.items
         ≡ map told_of left_out.old.items
-        ++ flat_map (λ e. node_left_out folder.now e.0 e.1.node) entries.now) }
+        ++ flat_map (λ e. object_left_out folder.now e.0 e.1.object) entries.now) }
 {
     for entry in entries {
-        lay_out_node(rt, folder, entry.0.as_slice(), &entry.1, left_out)?;
+        lay_out_object(rt, folder, entry.0.as_slice(), &entry.1, left_out)?;
     }
     Ok(())
 }
@@ -163,16 +163,16 @@ fn lay_out_if_link<R: AllocGlobal + Files>(
     rt: &R,
     folder: &str,
     path: &[Name],
-    node: &HostNode,
+    object: &HostObject,
     left_out: &mut Vec<LeftOut>,
 ) -> io::Result<()>
     ensures { OnOk result (map told_of left_out.new.items
-        ≡ map told_of left_out.old.items ++ link_left_out folder.now path.now node.now) }
+        ≡ map told_of left_out.old.items ++ link_left_out folder.now path.now object.now) }
 {
-    match node {
-        HostNode::Directory => Ok(()),
-        HostNode::File(_) => Ok(()),
-        HostNode::Link(target) => lay_out_link(rt, folder, path, target.as_slice(), left_out),
+    match object {
+        HostObject::Directory => Ok(()),
+        HostObject::File(_) => Ok(()),
+        HostObject::Link(target) => lay_out_link(rt, folder, path, target.as_slice(), left_out),
     }
 }
 
@@ -184,10 +184,10 @@ fn lay_out_links<R: AllocGlobal + Files>(
 ) -> io::Result<()>
     ensures { OnOk result (map told_of left_out.new.items
         ≡ map told_of left_out.old.items
-        ++ flat_map (λ e. link_left_out folder.now e.0 e.1.node) entries.now) }
+        ++ flat_map (λ e. link_left_out folder.now e.0 e.1.object) entries.now) }
 {
     for entry in entries {
-        lay_out_if_link(rt, folder, entry.0.as_slice(), &entry.1.node, left_out)?;
+        lay_out_if_link(rt, folder, entry.0.as_slice(), &entry.1.object, left_out)?;
     }
     Ok(())
 }
@@ -212,6 +212,6 @@ pub fn lay_out<R: AllocGlobal + Files>(
     ensures { OnOk result (map told_of left_out.new.items
         ≡ map told_of left_out.old.items ++ all_left_out folder.now entries.now) }
 {
-    lay_out_nodes(rt, folder, entries, left_out)?;
+    lay_out_objects(rt, folder, entries, left_out)?;
     lay_out_links(rt, folder, entries, left_out)
 }

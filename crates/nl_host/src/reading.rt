@@ -1,7 +1,7 @@
 //! A folder of the host, read whole.
 use crate::host_folder::{Found, HostFolder, Kind};
 use nl_folders::{FolderError, Name, Path, copied, with_name};
-use nl_manifests::{Attributes, HostEntry, HostNode, HostTree};
+use nl_manifests::{Attributes, HostEntry, HostObject, HostTree};
 use nl_types::limits::PATH_LIMIT;
 use nl_types::{Items, VolError};
 use std::alloc::Global;
@@ -49,16 +49,16 @@ fn file_read<R: AllocGlobal + Files + Clone + Drop, W: Watching>(
     watching: &mut W,
 ) -> Result<HostEntry, FolderError> {
     let Some(read) = folder.read(alloc, next.path.as_slice())? else {
-        let node = HostNode::File(Items::new(alloc));
+        let object = HostObject::File(Items::new(alloc));
         return Ok(HostEntry {
-            node,
+            object,
             attributes: None,
         });
     };
     watching.tell(read.bytes.len() as u64);
     Ok(HostEntry {
         attributes: next.attributes.map(|_| read.attributes),
-        node: HostNode::File(Items::from_vec(read.bytes)),
+        object: HostObject::File(Items::from_vec(read.bytes)),
     })
 }
 
@@ -71,20 +71,20 @@ fn visit<R: AllocGlobal + Files + Clone + Drop, W: Watching>(
     watching: &mut W,
 ) -> Result<Option<HostEntry>, FolderError> {
     let path = next.path.as_slice();
-    let node = match next.kind {
+    let object = match next.kind {
         Kind::File => return Ok(Some(file_read(alloc, folder, next, watching)?)),
         Kind::Directory => {
             let all = folder.list(alloc, path)?;
             add_all(alloc, path, all, pending)?;
-            HostNode::Directory
+            HostObject::Directory
         }
         Kind::Link => match folder.target(alloc, path)? {
-            Some(target) => HostNode::Link(target),
+            Some(target) => HostObject::Link(target),
             None => return Ok(None),
         },
     };
     Ok(Some(HostEntry {
-        node,
+        object,
         attributes: next.attributes,
     }))
 }

@@ -10,8 +10,8 @@ use Rattle.std.specs.FinMap.Entries.{below_all}
 use Rattle.std.specs.Ordering.{is_eq, is_lt, ordering_then}
 use Rattle.std.proofs.lemmas.Bool.{and_from, and_parts}
 use Rattle.std.proofs.lemmas.Option.{same_Some}
-use Rattle.nl_types.specs.declared.reply.Node.{Node}
-use Rattle.nl_types.specs.declared.reply.Node.TheVariants.{Dir, File}
+use Rattle.nl_types.specs.declared.reply.Object.{Object}
+use Rattle.nl_types.specs.declared.reply.Object.TheVariants.{Dir, File}
 use Rattle.nl_types.specs.Plain.Calls.{is_dir}
 use Rattle.nl_types.specs.Plain.Limits.{file_limit, path_length_limit}
 use Rattle.nl_types.specs.Plain.Paths.{Name, Path, is_name, is_within, name_cmp, path_cmp, same_name, same_path}
@@ -105,7 +105,7 @@ absent p (e ∷ tree) below =
     ap (λ o. cond (is_eq o) (Some e.1) (lookup tree p)) (less_is (path_cmp p e.0) parts.0)
     ∙ absent p tree parts.1
 
-sorted_from : (e : Path × Node) (entries : Tree) → all_follow e entries ≡ true
+sorted_from : (e : Path × Object) (entries : Tree) → all_follow e entries ≡ true
     → is_sorted path_cmp (e ∷ entries) ≡ true
 sorted_from e [] is = refl
 sorted_from e (f ∷ entries) is =
@@ -117,12 +117,12 @@ sorted_from e (f ∷ entries) is =
     (and_from (is_lt (path_cmp e.0 f.0)) (below_all path_cmp e.0 entries) (ap is_lt less)
     (below_more e.0 f.0 entries less behind.0)) rest
 
-directory_is : (node : Node) → is_dir node ≡ true → node ≡ Dir
+directory_is : (object : Object) → is_dir object ≡ true → object ≡ Dir
 directory_is Dir is = refl
 directory_is (File bytes) is = absurd (true≢false (sym is))
 
 -- what is above one of the entries is above the first one too, or is a directory among them
-dirs_above : (e : Path × Node) (entries : Tree) (q top : Path) → all_follow e entries ≡ true
+dirs_above : (e : Path × Object) (entries : Tree) (q top : Path) → all_follow e entries ≡ true
     → is_some (lookup entries q) ≡ true → IsAbove top q
     → IsAbove top e.0 ⊎ (lookup (e ∷ entries) top ≡ Some Dir)
 dirs_above e [] q top is there above = absurd (true≢false (sym there))
@@ -178,25 +178,25 @@ path_fits [] is = omega arith
 path_fits (name ∷ names) is = spelled_within 4095 (name ∷ names) is
 
 -- what is found was judged
-found_judged : (tree : Tree) (q : Path) (node : Node) → list_all is_entry tree ≡ true → lookup tree q ≡ Some node
-    → is_entry (q, node) ≡ true
-found_judged [] q node all is = absurd (true≢false (sym (ap is_some is)))
-found_judged (e ∷ tree) q node all is =
+found_judged : (tree : Tree) (q : Path) (object : Object) → list_all is_entry tree ≡ true → lookup tree q ≡ Some object
+    → is_entry (q, object) ≡ true
+found_judged [] q object all is = absurd (true≢false (sym (ap is_some is)))
+found_judged (e ∷ tree) q object all is =
     let parts = and_parts (is_entry e) (list_all is_entry tree) all in
     elim (same_path q e.0) as (λ b.
-    same_path q e.0 ≡ b → cond b (Some e.1) (lookup tree q) ≡ Some node → is_entry (q, node) ≡ true) [
+    same_path q e.0 ≡ b → cond b (Some e.1) (lookup tree q) ≡ Some object → is_entry (q, object) ≡ true) [
       | true ↦ λ same here.
-          subst (λ (p : Path). is_entry (p, node) ≡ true) (sym (same_path-equal q e.0 same))
-          (subst (λ (n : Node). is_entry (e.0, n) ≡ true) (same_Some e.1 node here) parts.0)
-      | false ↦ λ _ later. found_judged tree q node parts.1 later
+          subst (λ (p : Path). is_entry (p, object) ≡ true) (sym (same_path-equal q e.0 same))
+          (subst (λ (n : Object). is_entry (e.0, n) ≡ true) (same_Some e.1 object here) parts.0)
+      | false ↦ λ _ later. found_judged tree q object parts.1 later
     ] refl is
 
-found_in : (tree : Tree) (q : Path) → is_some (lookup tree q) ≡ true → (node : Node) × (lookup tree q ≡ Some node)
+found_in : (tree : Tree) (q : Path) → is_some (lookup tree q) ≡ true → (object : Object) × (lookup tree q ≡ Some object)
 found_in tree q there = by (lookup tree q) refl there
   where
-    by : (o : Option Node) → lookup tree q ≡ o → is_some o ≡ true → (node : Node) × (lookup tree q ≡ Some node)
+    by : (o : Option Object) → lookup tree q ≡ o → is_some o ≡ true → (object : Object) × (lookup tree q ≡ Some object)
     by None is some = absurd (true≢false (sym some))
-    by (Some node) is some = (node, is)
+    by (Some object) is some = (object, is)
 
 -- ---- all of them
 
@@ -259,7 +259,7 @@ nameable (e ∷ entries) is judged count =
     let parts = and_parts (length e.0 == 0 && is_dir e.1) (all_follow e entries) is in
     let first = and_parts (length e.0 == 0) (is_dir e.1) parts.0 in
     let path = empty_is e.0 first.0 in
-    let node = directory_is e.1 first.1 in
-    let same : e ≡ ([], Dir) = λ i. (path i, node i) in
-    subst (λ (f : Path × Node). all_follow f entries ≡ true → list_all is_entry (f ∷ entries) ≡ true
+    let object = directory_is e.1 first.1 in
+    let same : e ≡ ([], Dir) = λ i. (path i, object i) in
+    subst (λ (f : Path × Object). all_follow f entries ≡ true → list_all is_entry (f ∷ entries) ≡ true
     → length (f ∷ entries) ≤ 524278 → IsNameable (f ∷ entries)) (sym same) (rooted entries) parts.1 judged count

@@ -11,7 +11,7 @@ use Rattle.nl_types.specs.declared.event.Event.{Event}
 use Rattle.nl_types.specs.declared.event.Event.TheVariants as event
 use Rattle.nl_types.specs.declared.reply.Answer.TheVariants as answer
 use Rattle.nl_types.specs.declared.reply.Named.{Named}
-use Rattle.nl_types.specs.declared.reply.Node.TheVariants.{Dir, File}
+use Rattle.nl_types.specs.declared.reply.Object.TheVariants.{Dir, File}
 use Rattle.nl_types.specs.Plain.Paths.{Path, is_name}
 use Rattle.nl_types.specs.Plain.Trees.{Tree, IsTree, children, lookup}
 use Rattle.nl_types.specs.Plain.Calls.{and_then, dir_at, file_at, list, named, read, reply_to}

@@ -17,8 +17,8 @@ use Rattle.nl_types.specs.declared.event.Event.TheVariants as event
 use Rattle.nl_types.specs.declared.event.Mode.TheVariants.{Snapshot}
 use Rattle.nl_types.specs.declared.reply.Answer.{Answer}
 use Rattle.nl_types.specs.declared.reply.Answer.TheVariants as answer
-use Rattle.nl_types.specs.declared.reply.Node.{Node}
-use Rattle.nl_types.specs.declared.reply.Node.TheVariants.{Dir, File}
+use Rattle.nl_types.specs.declared.reply.Object.{Object}
+use Rattle.nl_types.specs.declared.reply.Object.TheVariants.{Dir, File}
 use Rattle.nl_types.specs.Plain.Limits.{checkpoint_number_limit, file_limit, path_length_limit}
 use Rattle.nl_types.specs.Plain.Paths.{Name, Path, name_cmp, path_cmp, same_name, same_path}
 use Rattle.nl_types.specs.Plain.Trees.{Tree, IsTree, IsIn, lookup}
@@ -66,8 +66,8 @@ pub too_long : (path : Path) → is_spelled path_length_limit path ≡ false →
 too_long [] is = absurd (true≢false is)
 too_long (name ∷ names) is = spelled_long path_length_limit (name ∷ names) is
 
-pub too_big : (node : Node) → is_small node ≡ false
-    → (bytes : List ℕ) × (node ≡ File bytes) × (file_limit < length bytes)
+pub too_big : (object : Object) → is_small object ≡ false
+    → (bytes : List ℕ) × (object ≡ File bytes) × (file_limit < length bytes)
 too_big Dir is = absurd (true≢false is)
 too_big (File bytes) is = (bytes, refl, leb-false (length bytes) file_limit is)
 
@@ -131,12 +131,12 @@ name_follows d (x ∷ dir) (a ∷ e) name from to same =
 -- ---- entries of a tree
 
 -- each path of the tree is at the entry or before it, or is found among those behind it
-abbrev ComesTo : Tree → Path × Node → Tree → Type 0
+abbrev ComesTo : Tree → Path × Object → Tree → Type 0
 ComesTo tree e entries =
-    (q : Path) (n : Node) → lookup tree q ≡ Some n
+    (q : Path) (n : Object) → lookup tree q ≡ Some n
     → (is_lt (path_cmp e.0 q) ≡ false) ⊎ (lookup entries q ≡ Some n)
 
-here : (e : Path × Node) (entries : Tree) → lookup (e ∷ entries) e.0 ≡ Some e.1
+here : (e : Path × Object) (entries : Tree) → lookup (e ∷ entries) e.0 ≡ Some e.1
 here e entries = ap (λ b. cond b (Some e.1) (lookup entries e.0)) (same_path-itself e.0)
 
 not_behind_itself : (p q : Path) → same_path q p ≡ true → is_lt (path_cmp p q) ≡ false
@@ -144,7 +144,7 @@ not_behind_itself p q same =
     ap (λ (r : Path). is_lt (path_cmp p r)) (same_path-equal q p same) ∙ ap is_lt (tied_itself path_total p)
 
 -- what is found behind an entry has another path
-found_behind : (e : Path × Node) (entries : Tree) (q : Path) (n : Node) → below_all path_cmp e.0 entries ≡ true
+found_behind : (e : Path × Object) (entries : Tree) (q : Path) (n : Object) → below_all path_cmp e.0 entries ≡ true
     → lookup entries q ≡ Some n → lookup (e ∷ entries) q ≡ Some n
 found_behind e entries q n below is =
     ap (λ b. cond b (Some e.1) (lookup entries q)) (not_true (same_path q e.0) (λ same.
@@ -153,7 +153,7 @@ found_behind e entries q n below is =
     ∙ is
 
 -- one entry behind another follows it
-next_follows : (tree : Tree) (e f : Path × Node) (entries : Tree) → IsTree tree → ComesTo tree e (f ∷ entries)
+next_follows : (tree : Tree) (e f : Path × Object) (entries : Tree) → IsTree tree → ComesTo tree e (f ∷ entries)
     → path_cmp e.0 f.0 ≡ Less → below_all path_cmp f.0 entries ≡ true → lookup tree e.0 ≡ Some e.1
     → lookup tree f.0 ≡ Some f.1 → follows (is_dir e.1) e.0 f.0 ≡ true
 next_follows tree e f entries t comes less below first second = by (ending_of f.0)
@@ -182,9 +182,9 @@ next_follows tree e f entries t comes less below first second = by (ending_of f.
     by (inl root) = absurd (not_above_root e.0 (ap (path_cmp e.0) (sym root) ∙ less))
     by (inr some) = under some.0 some.1 some.2
 
-tree_follows : (tree : Tree) (e : Path × Node) (entries : Tree) → IsTree tree
+tree_follows : (tree : Tree) (e : Path × Object) (entries : Tree) → IsTree tree
     → is_sorted path_cmp (e ∷ entries) ≡ true
-    → ((q : Path) (n : Node) → lookup (e ∷ entries) q ≡ Some n → lookup tree q ≡ Some n)
+    → ((q : Path) (n : Object) → lookup (e ∷ entries) q ≡ Some n → lookup tree q ≡ Some n)
     → ComesTo tree e entries → all_follow e entries ≡ true
 tree_follows tree e [] t sorted among comes = refl
 tree_follows tree e (f ∷ entries) t sorted among comes =
@@ -193,7 +193,7 @@ tree_follows tree e (f ∷ entries) t sorted among comes =
     let less : path_cmp e.0 f.0 ≡ Less =
     less_is (path_cmp e.0 f.0)
     (and_parts (is_lt (path_cmp e.0 f.0)) (below_all path_cmp e.0 entries) parts.0).0 in
-    let later : (q : Path) (n : Node) → lookup (f ∷ entries) q ≡ Some n → lookup tree q ≡ Some n =
+    let later : (q : Path) (n : Object) → lookup (f ∷ entries) q ≡ Some n → lookup tree q ≡ Some n =
     λ q n is. among q n (found_behind e (f ∷ entries) q n parts.0 is) in
     and_from (follows (is_dir e.1) e.0 f.0) (all_follow f entries)
     (next_follows tree e f entries t comes less rest.0 (among e.0 e.1 (here e (f ∷ entries)))
@@ -213,10 +213,10 @@ tree_follows tree e (f ∷ entries) t sorted among comes =
           ] refl found
     ]))
 
-root_first : (p : Path) (node : Node) (entries : Tree) → below_all path_cmp p entries ≡ true
-    → lookup ((p, node) ∷ entries) [] ≡ Some Dir → (p ≡ []) × (node ≡ Dir)
-root_first [] node entries below is = (refl, same_Some node Dir is)
-root_first (n ∷ p) node entries below is =
+root_first : (p : Path) (object : Object) (entries : Tree) → below_all path_cmp p entries ≡ true
+    → lookup ((p, object) ∷ entries) [] ≡ Some Dir → (p ≡ []) × (object ≡ Dir)
+root_first [] object entries below is = (refl, same_Some object Dir is)
+root_first (n ∷ p) object entries below is =
     let no : None ≡ Some Dir = sym (absent [] entries (below_more [] (n ∷ p) entries refl below)) ∙ is in cc
 
 -- the entries of a tree begin with the root, and each follows the one before it

@@ -12,8 +12,8 @@ use Rattle.nl_types.specs.declared.event.Event.TheVariants as event
 use Rattle.nl_types.specs.declared.reply.Answer.{Answer}
 use Rattle.nl_types.specs.declared.reply.Answer.TheVariants as answer
 use Rattle.nl_types.specs.declared.reply.Named.{Named}
-use Rattle.nl_types.specs.declared.reply.Node.{Node}
-use Rattle.nl_types.specs.declared.reply.Node.TheVariants.{Dir, File}
+use Rattle.nl_types.specs.declared.reply.Object.{Object}
+use Rattle.nl_types.specs.declared.reply.Object.TheVariants.{Dir, File}
 use Rattle.nl_types.specs.Plain.Characters.{slash}
 use Rattle.nl_types.specs.Plain.Paths.{Path, is_name, path_of}
 use Rattle.nl_types.specs.Plain.Trees.{Tree, IsTree, lookup}
@@ -186,8 +186,8 @@ refused_is_missing n a reply e w world asked reads is =
     found : (tree : Tree) → IsTree tree → (answers : Answer) × (reply_to tree root ≡ Ok answers)
     found tree t = (
       answer.Stat (stat_of tree [] Dir),
-      ap (λ (o : Option Node).
-          and_then (and_then (ok_or o error.NotFound) (λ (node : Node). Ok (stat_of tree [] node)))
+      ap (λ (o : Option Object).
+          and_then (and_then (ok_or o error.NotFound) (λ (object : Object). Ok (stat_of tree [] object)))
           (λ s. Ok (answer.Stat s))) t.root,
     )
 

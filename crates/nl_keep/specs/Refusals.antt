@@ -3,8 +3,8 @@ use Rattle.std.specs.Prelude.{◌≡◌, ◌⊎◌, ℕ, ◌+◌, ◌<◌, ◌�
 use Rattle.std.specs.List.{list_all}
 use Rattle.nl_types.specs.declared.error.VolError.{VolError}
 use Rattle.nl_types.specs.declared.error.VolError.TheVariants.{BadName, BadPath, Fault, Latest, Memory, Mounted, NoCheckpoint, NoSpace, NumbersSpent, TooBig}
-use Rattle.nl_types.specs.declared.reply.Node.{Node}
-use Rattle.nl_types.specs.declared.reply.Node.TheVariants.{File}
+use Rattle.nl_types.specs.declared.reply.Object.{Object}
+use Rattle.nl_types.specs.declared.reply.Object.TheVariants.{File}
 use Rattle.nl_types.specs.Plain.Limits.{checkpoint_number_limit, file_limit, path_limit}
 use Rattle.nl_types.specs.Plain.Paths.{Path, is_name}
 use Rattle.nl_types.specs.Plain.Trees.{Tree, IsTree}
@@ -19,7 +19,7 @@ use Rattle.nl_keep.specs.Forgotten.{ForgetsOne}
 -- ---- storing
 
 -- no call can make the entry: a name of its path is none, no call can name the path, or the file is too long
-abbrev pub RefusesEntry : Path × Node → VolError → Type 0
+abbrev pub RefusesEntry : Path × Object → VolError → Type 0
 RefusesEntry e BadName = list_all is_name e.0 ≡ false
 RefusesEntry e BadPath = IsTooLong e.0
 RefusesEntry e TooBig = (bytes : List ℕ) × (e.1 ≡ File bytes) × (file_limit < length bytes)

@@ -12,7 +12,7 @@ use crate::asking::are_names;
 use crate::storing::KeepError;
 use nl_folders::{Name, Path};
 use nl_types::limits::{FILE_LIMIT, PATH_LENGTH_LIMIT, PATH_LIMIT};
-use nl_types::{Node, VolError};
+use nl_types::{Object, VolError};
 
 /// The most paths of a tree, the root's included.
 const MOST_PATHS: usize = PATH_LIMIT + 1;
@@ -32,18 +32,18 @@ fn is_spelled(path: &[Name], room: usize) -> bool
     }
 }
 
-fn is_small(node: &Node) -> bool
-    ensures { result ≡ is_small node.now }
+fn is_small(object: &Object) -> bool
+    ensures { result ≡ is_small object.now }
 {
-    match node {
-        Node::Dir => true,
-        Node::File(bytes) => bytes.len() <= FILE_LIMIT as usize,
+    match object {
+        Object::Dir => true,
+        Object::File(bytes) => bytes.len() <= FILE_LIMIT as usize,
     }
 }
 
 /// Judges an entry by itself. Refused by `BadName` where a name may not stand in a path, `BadPath` where the
 /// path is too long, `TooBig` where the file is.
-fn judge_entry(entry: &(Path, Node)) -> Result<(), VolError>
+fn judge_entry(entry: &(Path, Object)) -> Result<(), VolError>
     ensures entry { OnOk result (is_entry entry.now ≡ true) }
     ensures refused { IfErr result (RefusesEntry entry.now) }
 {
@@ -61,7 +61,7 @@ fn judge_entry(entry: &(Path, Node)) -> Result<(), VolError>
 }
 
 /// Judges each entry by itself, and how many there are.
-fn judge_entries(entries: &[(Path, Node)]) -> Result<(), VolError>
+fn judge_entries(entries: &[(Path, Object)]) -> Result<(), VolError>
     ensures each { OnOk result (list_all is_entry entries.now ≡ true) }
     ensures count { OnOk result (length entries.now ≤ 524278) }
     ensures refused { IfErr result (λ e. RefusesEntries entries.now (KeepError.Refused e)) }
@@ -107,17 +107,17 @@ fn follows(is_directory: bool, earlier: &[Name], later: &[Name]) -> bool
     }
 }
 
-fn is_directory(node: &Node) -> bool
-    ensures { result ≡ is_dir node.now }
+fn is_directory(object: &Object) -> bool
+    ensures { result ≡ is_dir object.now }
 {
-    match node {
-        Node::Dir => true,
-        Node::File(_) => false,
+    match object {
+        Object::Dir => true,
+        Object::File(_) => false,
     }
 }
 
 /// Whether each entry follows the one before it.
-fn all_follow(first: &(Path, Node), entries: &[(Path, Node)]) -> bool
+fn all_follow(first: &(Path, Object), entries: &[(Path, Object)]) -> bool
     ensures { result ≡ all_follow first.now entries.now }
 {
     let mut earlier = first;
@@ -135,7 +135,7 @@ fn all_follow(first: &(Path, Node), entries: &[(Path, Node)]) -> bool
 }
 
 /// Whether the first entry is the root, a directory, and each other one follows the one before it.
-fn is_rooted(entries: &[(Path, Node)]) -> bool
+fn is_rooted(entries: &[(Path, Object)]) -> bool
     ensures { result ≡ is_rooted entries.now }
 {
     match entries {
@@ -149,7 +149,7 @@ fn is_rooted(entries: &[(Path, Node)]) -> bool
 /// Judges whether calls can make a tree of these entries: they are one, and no path is too long for a call.
 /// Refused by `Disordered` where they are none, `BadName`, `BadPath` or `TooBig` where a name, a path or a
 /// file is, and `TooBig` where there are too many.
-pub(crate) fn judge_tree(entries: &[(Path, Node)]) -> Result<(), KeepError>
+pub(crate) fn judge_tree(entries: &[(Path, Object)]) -> Result<(), KeepError>
     ensures nameable { OnOk result (IsNameable entries.now) }
     ensures refused { IfErr result (RefusesEntries entries.now) }
 {

@@ -9,7 +9,7 @@ ghost use Rattle.nl_keep.specs.Volumes.{LeadsTo};
 
 use crate::volume::Volume;
 use nl_folders::{Path, Plan};
-use nl_types::{Change, Event, Items, Node, VolError};
+use nl_types::{Change, Event, Items, Object, VolError};
 use std::alloc::Global;
 
 // ---- what calls cost
@@ -73,8 +73,8 @@ fn apply_all<V: Volume>(volume: &mut V, calls: Items<Change>) -> Result<(), VolE
 pub(crate) fn make<V: Volume>(
     alloc: Global,
     volume: &mut V,
-    present: &[(Path, Node)],
-    wanted: &[(Path, Node)],
+    present: &[(Path, Object)],
+    wanted: &[(Path, Object)],
 ) -> Result<Cost, VolError>
     requires present { IsNameable present.now }
     requires wanted { IsNameable wanted.now }

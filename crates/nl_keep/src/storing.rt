@@ -11,7 +11,7 @@ use crate::making::make;
 use crate::trees::current_tree;
 use crate::volume::Volume;
 use nl_folders::{FolderError, Path, Tree};
-use nl_types::{Answer, CheckpointNumber, Event, Mode, Node, VolError};
+use nl_types::{Answer, CheckpointNumber, Event, Mode, Object, VolError};
 use std::alloc::Global;
 use std::error::Error;
 use std::fmt;
@@ -104,7 +104,7 @@ pub fn store_over<V: Volume>(
     alloc: Global,
     mut volume: V,
     earlier: Tree,
-    wanted: &[(Path, Node)],
+    wanted: &[(Path, Object)],
     moment: u64,
 ) -> Result<(Stored, V), KeepError>
     ensures earlier { IfOk result (λ stored. stored.0.earlier ≡ earlier) }
@@ -137,7 +137,7 @@ pub fn store_over<V: Volume>(
 pub fn store<V: Volume>(
     alloc: Global,
     volume: V,
-    wanted: &[(Path, Node)],
+    wanted: &[(Path, Object)],
     moment: u64,
 ) -> Result<(Stored, V), KeepError>
     ensures earlier { IfOk result (λ stored. (w : World) → V.means volume w

@@ -6,7 +6,7 @@ use mathlib.Core.HLevel.{⊥_prop}
 use Rattle.std.proofs.Math.Logic.{∥∥₁_elim}
 use Rattle.std.proofs.lemmas.Option.{same_Some}
 use Rattle.nl_types.specs.declared.error.VolError.TheVariants.{NoCheckpoint}
-use Rattle.nl_types.specs.declared.reply.Node.TheVariants.{File}
+use Rattle.nl_types.specs.declared.reply.Object.TheVariants.{File}
 use Rattle.nl_types.specs.declared.row.Row.{Row}
 use Rattle.nl_types.specs.Plain.Paths.{Path}
 use Rattle.nl_types.specs.Plain.Rows.{kept_row}

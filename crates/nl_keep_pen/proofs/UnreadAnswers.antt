@@ -7,17 +7,17 @@ use Rattle.nl_types.specs.declared.error.VolError.TheVariants.{Memory, NoCheckpo
 use Rattle.nl_types.specs.declared.kind.Kind.{Kind}
 use Rattle.nl_types.specs.declared.kind.Kind.TheVariants as kind
 use Rattle.nl_types.specs.declared.reply.Named.{Named}
-use Rattle.nl_types.specs.declared.reply.Node.{Node}
-use Rattle.nl_types.specs.declared.reply.Node.TheVariants.{Dir, File}
+use Rattle.nl_types.specs.declared.reply.Object.{Object}
+use Rattle.nl_types.specs.declared.reply.Object.TheVariants.{Dir, File}
 use Rattle.nl_types.specs.Plain.Calls.{and_then, dir_at, dir_in, file_at, file_in, list, named, ok_unless, stop_from, stops_walk, walk}
 use Rattle.nl_types.specs.Plain.Paths.{Name, Path, same_name}
-use Rattle.nl_types.specs.Plain.Trees.{Tree, IsTree, children, lookup, name_below, node_kind}
+use Rattle.nl_types.specs.Plain.Trees.{Tree, IsTree, children, lookup, name_below, object_kind}
 use Rattle.nl_types.specs.Plain.Worlds.{World, Copy, copy_at}
 use Rattle.nl_folders.specs.declared.folder.FolderError.{FolderError}
 use Rattle.nl_folders.specs.declared.folder.FolderError.TheVariants.{Refused}
 use Rattle.nl_folders.specs.Refusals.{RefusesPath, RefusesTree}
 use Rattle.nl_manifests.specs.HostTrees.{last_name, manifest_name, parted}
-use Rattle.nl_manifests.specs.Unread.{unread, unread_at, unread_node}
+use Rattle.nl_manifests.specs.Unread.{unread, unread_at, unread_object}
 use Rattle.nl_keep.specs.Shown.{ShowsKept}
 use Rattle.nl_keep.specs.Volumes.{Meaning}
 use Rattle.nl_keep_pen.specs.Facts.UnreadTrees.{found_unread, in_whole, same_unread}
@@ -60,7 +60,7 @@ module _ (tree : Tree) where
 
 -- ---- directories
 
-abbrev dir_found : Walked → Option Node → Walked
+abbrev dir_found : Walked → Option Object → Walked
 dir_found walked found = and_then (and_then walked (λ _. ok_or found NotFound)) dir_in
 
 files_are_none : (walked : Walked) (a b : List ℕ)
@@ -74,10 +74,10 @@ dir_same tree path =
     ∙ same_unread (dir_found (walk tree path)) (files_are_none (walk tree path)) (last_name (parted path))
     (lookup tree path)
 
-kind_same : (name : Name) (node : Node) → node_kind (unread_node name node) ≡ node_kind node
+kind_same : (name : Name) (object : Object) → object_kind (unread_object name object) ≡ object_kind object
 kind_same name Dir = refl
 kind_same name (File bytes) =
-    elim (same_name name manifest_name) as (λ t. node_kind (cond t (File bytes) (File [])) ≡ kind.File)
+    elim (same_name name manifest_name) as (λ t. object_kind (cond t (File bytes) (File [])) ≡ kind.File)
     [ true ↦ refl | false ↦ refl ]
 
 children_same : (tree : Tree) (dir : Path) → children (unread tree) dir ≡ children tree dir
@@ -95,7 +95,7 @@ names_same tree path =
 
 -- ---- files
 
-abbrev file_found : Walked → Option Node → Result (List ℕ) VolError
+abbrev file_found : Walked → Option Object → Result (List ℕ) VolError
 file_found walked found = and_then (and_then walked (λ _. ok_or found NotFound)) file_in
 
 file_by : (tree : Tree) (path : Path)
@@ -106,8 +106,8 @@ abbrev is_manifest : Path → Bool
 is_manifest path = same_name (last_name (parted path)) manifest_name
 
 -- a manifest is the same
-found_same : (name : Name) → same_name name manifest_name ≡ true → (walked : Walked) (o : Option Node)
-    → file_found walked (option_map (unread_node name) o) ≡ file_found walked o
+found_same : (name : Name) → same_name name manifest_name ≡ true → (walked : Walked) (o : Option Object)
+    → file_found walked (option_map (unread_object name) o) ≡ file_found walked o
 found_same name is (Err e) o = refl
 found_same name is (Ok u) None = refl
 found_same name is (Ok u) (Some Dir) = refl
@@ -115,8 +115,8 @@ found_same name is (Ok u) (Some (File b)) =
     ap (λ t. file_found (Ok u) (Some (cond t (File b) (File [])))) is
 
 -- another file is empty
-found_empty : (name : Name) → same_name name manifest_name ≡ false → (walked : Walked) (o : Option Node)
-    (b : List ℕ) → file_found walked o ≡ Ok b → file_found walked (option_map (unread_node name) o) ≡ Ok []
+found_empty : (name : Name) → same_name name manifest_name ≡ false → (walked : Walked) (o : Option Object)
+    (b : List ℕ) → file_found walked o ≡ Ok b → file_found walked (option_map (unread_object name) o) ≡ Ok []
 found_empty name other (Err e) o b is = cc
 found_empty name other (Ok u) None b is = cc
 found_empty name other (Ok u) (Some Dir) b is = cc
@@ -124,8 +124,8 @@ found_empty name other (Ok u) (Some (File x)) b is =
     ap (λ t. file_found (Ok u) (Some (cond t (File x) (File [])))) other
 
 -- and a file stands where one was
-found_whole : (name : Name) (walked : Walked) (o : Option Node) (b : List ℕ)
-    → file_found walked (option_map (unread_node name) o) ≡ Ok b
+found_whole : (name : Name) (walked : Walked) (o : Option Object) (b : List ℕ)
+    → file_found walked (option_map (unread_object name) o) ≡ Ok b
     → (bytes : List ℕ) × (file_found walked o ≡ Ok bytes)
 found_whole name (Err e) o b is = let no : ◌≡◌ {A = Result (List ℕ) VolError} (Err e) (Ok b) = is in cc
 found_whole name (Ok u) None b is =

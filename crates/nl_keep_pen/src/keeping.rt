@@ -14,7 +14,7 @@ use nl_core::{Pen, open};
 use nl_device::Device;
 use nl_folders::{Path, Tree};
 use nl_keep::{KeepError, Stored, checkpoint_tree, current_tree, forget, store_over};
-use nl_types::{CheckpointNumber, Geometry, Node, VolError};
+use nl_types::{CheckpointNumber, Geometry, Object, VolError};
 use std::alloc::Global;
 
 /// The image of a pen of which nothing is dirty and nothing mounted. Refused by `Memory`, and by `Fault` where
@@ -57,7 +57,7 @@ pub fn backup_image<D: Device, P: Preparing>(
     alloc: Global,
     image: &[u8],
     device: D,
-    wanted: &[(Path, Node)],
+    wanted: &[(Path, Object)],
     moment: u64,
     preparing: &mut P,
 ) -> Result<(Stored, Vec<u8>), KeepError>

@@ -7,7 +7,7 @@ ghost use Rattle.nl_keep.specs.Volumes.{LeadsTo};
 use crate::PenVolume;
 use nl_device::Device;
 use nl_folders::Path;
-use nl_types::{Node, VolError};
+use nl_types::{Object, VolError};
 
 /// Events that keep each checkpoint that the volume didn't make by itself: rounds of cleaning, or more segments.
 /// By `nl_keep::laws::block_events_keep_all` moves, retirements and resizes are such events, and by
@@ -25,7 +25,7 @@ pub trait Preparing {
     fn prepare<D: Device>(
         &mut self,
         volume: &mut PenVolume<D>,
-        earlier: &[(Path, Node)],
+        earlier: &[(Path, Object)],
     ) -> Result<(), VolError>
         ensures { OnOk result (LeadsTo KeepsOwn
             (MeansWorld volume.old.pen) (MeansWorld volume.new.pen)) };

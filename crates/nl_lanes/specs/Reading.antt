@@ -27,12 +27,12 @@ IsBytesOf t path offset len result =
     ShowsUnlessMemory Bytes result (and_then (path_of path) (read t offset len))
 
 -- What a call of a reader comes to. It is refused where the mount is another volume's, where it was given no
--- image that is as new as what it has seen, and where the image that it entered lacks the mount. Else the
--- answer is that of the mount's checkpoint in the image of one history, which goes on from what was seen, and
+-- state that is as new as what it has seen, and where the state that it entered lacks the mount. Else the
+-- answer is that of the mount's checkpoint in the state of one history, which goes on from what was seen, and
 -- is what has been seen then.
 pub data Looked (m : Claim) (old new : Known) (Ungiven Refused : Type 0) (Answers : Tree → Type 0) : Type 0 where
   Foreign : m.told.volume ≢ old.volume → new ≡ old → Refused → Looked m old new Ungiven Refused Answers
-  NoImage : m.told.volume ≡ old.volume → Ungiven → new ≡ old → Refused
+  NoState : m.told.volume ≡ old.volume → Ungiven → new ≡ old → Refused
       → Looked m old new Ungiven Refused Answers
   NoMount : m.told.volume ≡ old.volume → IsHistory new.commits
       → mounted_on (shown_after new.commits) m.number ≡ None → Refused

@@ -28,7 +28,7 @@ pub trait FileReader<J: Volumes>: Drop {
     /// The same reader, but for what it has seen.
     ghost with_known: { Self → Known → Self };
 
-    /// Why it may be given no image that is as new as what it has seen.
+    /// Why it may be given no state that is as new as what it has seen.
     ghost ungiven: { Self → Type 0 };
 
     /// The reader out of its place.

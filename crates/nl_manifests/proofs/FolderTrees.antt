@@ -10,8 +10,8 @@ use Rattle.nl_types.specs.Plain.Limits.{name_limit}
 use Rattle.nl_types.specs.Facts.Booleans.{not_true}
 use Rattle.nl_types.specs.Plain.Paths.{Name, Path, is_name, path_cmp, same_name}
 use Rattle.nl_manifests.specs.declared.attributes.Attributes.{Attributes}
-use Rattle.nl_manifests.specs.declared.host_tree.HostNode.{HostNode}
-use Rattle.nl_manifests.specs.declared.host_tree.HostNode.TheVariants.{Directory, File, Link}
+use Rattle.nl_manifests.specs.declared.host_tree.HostObject.{HostObject}
+use Rattle.nl_manifests.specs.declared.host_tree.HostObject.TheVariants.{Directory, File, Link}
 use Rattle.nl_manifests.specs.declared.host_tree.HostEntry.{HostEntry}
 use Rattle.nl_manifests.specs.Manifests.{are_bytes, is_text}
 use Rattle.nl_manifests.specs.HostTrees.{HostTree, manifest_name, parted}
@@ -26,16 +26,16 @@ never is = absurd (true≢false (sym is))
 
 -- ---- what is kept may stand
 
-whole_of : (plain : Bool) (node : HostNode) (attributes : Option Attributes)
-    → is_kept plain node attributes ≡ true → is_whole node attributes ≡ true
+whole_of : (plain : Bool) (object : HostObject) (attributes : Option Attributes)
+    → is_kept plain object attributes ≡ true → is_whole object attributes ≡ true
 whole_of true Directory None is = refl
 whole_of true (File bytes) None is = refl
 whole_of true (Link target) None is = never is
-whole_of true node (Some a) is = never is
-whole_of false node attributes is = (and_parts (is_some attributes) (is_whole node attributes) is).1
+whole_of true object (Some a) is = never is
+whole_of false object attributes is = (and_parts (is_some attributes) (is_whole object attributes) is).1
 
-needs : (name : Name) (node : HostNode) (attributes : Option Attributes) → is_kept true node attributes ≡ true
-    → same_name name manifest_name ≡ false → needs_none name node attributes ≡ true
+needs : (name : Name) (object : HostObject) (attributes : Option Attributes) → is_kept true object attributes ≡ true
+    → same_name name manifest_name ≡ false → needs_none name object attributes ≡ true
 needs name Directory attributes is other = refl
 needs name (File bytes) None is other =
     ap (λ t. not (t && is_some (manifest_in bytes))) other
@@ -43,13 +43,13 @@ needs name (File bytes) (Some a) is other = never is
 needs name (Link target) None is other = never is
 needs name (Link target) (Some a) is other = never is
 
-may : (plain : Bool) (node : HostNode) (above : Option Attributes) (name : Name) (e : HostEntry)
-    → is_kept plain node above ≡ true → is_kept plain e.node e.attributes ≡ true
+may : (plain : Bool) (object : HostObject) (above : Option Attributes) (name : Name) (e : HostEntry)
+    → is_kept plain object above ≡ true → is_kept plain e.object e.attributes ≡ true
     → same_name name manifest_name ≡ false → may_stand above name e ≡ true
-may true node None name e in_one is other = needs name e.node e.attributes is other
-may true node (Some own) name e in_one is other = never in_one
-may false node None name e in_one is other = never in_one
-may false node (Some own) name e in_one is other = ap not other
+may true object None name e in_one is other = needs name e.object e.attributes is other
+may true object (Some own) name e in_one is other = never in_one
+may false object None name e in_one is other = never in_one
+may false object (Some own) name e in_one is other = ap not other
 
 not_false : (t : Bool) → not t ≡ true → t ≡ false
 not_false true is = never is
@@ -92,16 +92,16 @@ module _ (plain : Bool) (tree : HostTree) (folder : IsFolder plain tree) where
       let text = text_of name first.0 then.0 in
       let other = not_false (same_name name manifest_name) then.1 in
       ap (λ (o : Option HostEntry). stands_below o name e) d.found
-      ∙ and_from (is_directory d.entry.node) _ d.directory
+      ∙ and_from (is_directory d.entry.object) _ d.directory
       (and_from (is_name name && is_text name) (may_stand d.entry.attributes name e)
       (and_from (is_name name) (is_text name) first.0 text)
-      (may plain d.entry.node d.entry.attributes name e (folder.kept dir d.entry d.found)
+      (may plain d.entry.object d.entry.attributes name e (folder.kept dir d.entry d.found)
       (folder.kept (dir ++ name ∷ []) e found) other))
 
   entry_is : (p : Path) (e : HostEntry) → find path_cmp p tree ≡ Some e → is_host_entry tree (p, e) ≡ true
   entry_is p e found =
-      and_from (is_whole e.node e.attributes) (is_placed tree (parted p) e)
-      (whole_of plain e.node e.attributes (folder.kept p e found)) (by (ending_of p))
+      and_from (is_whole e.object e.attributes) (is_placed tree (parted p) e)
+      (whole_of plain e.object e.attributes (folder.kept p e found)) (by (ending_of p))
     where
       by : (p ≡ []) ⊎ ((dir : Path) × (name : Name) × (p ≡ dir ++ name ∷ []))
           → is_placed tree (parted p) e ≡ true
@@ -109,7 +109,7 @@ module _ (plain : Bool) (tree : HostTree) (folder : IsFolder plain tree) where
           let at_root : find path_cmp [] tree ≡ Some e =
           ap (λ (q : Path). find path_cmp q tree) (sym none) ∙ found in
           ap (λ (q : Path). is_placed tree (parted q) e) none
-          ∙ ap (λ (x : HostEntry). is_directory x.node)
+          ∙ ap (λ (x : HostEntry). is_directory x.object)
           (same_Some e folder.root.entry (sym at_root ∙ folder.root.found))
           ∙ folder.root.directory
       by (inr some) =

@@ -44,7 +44,7 @@ module _ (e : Path × HostEntry) (old : HostTree) (sorted : is_sorted path_cmp (
     (rest : (new : HostTree) → is_sorted path_cmp new ≡ true → (p : Path)
     → find path_cmp p (exactly old new) ≡ host_difference_of (find path_cmp p old) (find path_cmp p new)) where
   abbrev here : HostEntry → Option HostDifference
-  here f = entry_difference (have_other_bytes e.1.node f.node) e.1 f
+  here f = entry_difference (have_other_bytes e.1.object f.object) e.1 f
 
   beside_exact : (new : HostTree) → is_sorted path_cmp new ≡ true → (p : Path)
       → find path_cmp p (beside (λ path one other. have_other_bytes one other) e (exactly old) new)

@@ -79,7 +79,7 @@ told_with name (Some k) (Some a) = Some (record { name = name; kind = k; attribu
 
 -- what is told of an entry
 abbrev pub line_told : Name → HostEntry → Option Line
-line_told name e = told_with name (kind_of e.node) e.attributes
+line_told name e = told_with name (kind_of e.object) e.attributes
 
 -- the line of a name comes before those that are behind
 first_line : (n m : Name) (k : Option LineKind) (a : Option Attributes) (rest : List Line) (t : Bool)
@@ -132,7 +132,7 @@ found_line (e ∷ es) dir n sorted =
         ∙ ap (λ (p : Path). option_and_then (line_told n) (find path_cmp p es))
         (same_path-equal (dir ++ n ∷ []) e.0 (test ∙ same))
         ∙ ap (option_and_then (line_told n)) (absent e.0 es below) in
-        first_line n m (kind_of e.1.node) e.1.attributes (lines_in es dir) (same_name n m) refl none
+        first_line n m (kind_of e.1.object) e.1.attributes (lines_in es dir) (same_name n m) refl none
         ∙ ap (cond (same_name n m) (line_told n e.1)) rest
         ∙ told_cond (same_name n m) n e.1 (find path_cmp (dir ++ n ∷ []) es)
         ∙ sym (ap (λ t. option_and_then (line_told n) (cond t (Some e.1) (find path_cmp (dir ++ n ∷ []) es)))
@@ -160,7 +160,7 @@ below_lines (e ∷ es) dir n below =
         → below_all name_cmp n (keyed (line_under o e.1 ++ lines_in es dir)) ≡ true
     by less rest None is = rest
     by less rest (Some m) is =
-        below_line n m (kind_of e.1.node) e.1.attributes (lines_in es dir)
+        below_line n m (kind_of e.1.object) e.1.attributes (lines_in es dir)
         (ap is_lt (sym (child_cmp dir n m)) ∙ ap (λ (p : Path). is_lt (path_cmp (dir ++ n ∷ []) p))
         (sym (below_is dir e.0 m is)) ∙ less) rest
 
@@ -184,7 +184,7 @@ lines_in_order (e ∷ es) dir sorted =
         → is_sorted name_cmp (keyed (line_under o e.1 ++ lines_in es dir)) ≡ true
     by below rest None is = rest
     by below rest (Some m) is =
-        line_sorted m (kind_of e.1.node) e.1.attributes (lines_in es dir)
+        line_sorted m (kind_of e.1.object) e.1.attributes (lines_in es dir)
         (below_lines es dir m (subst (λ (p : Path). below_all path_cmp p es ≡ true) (below_is dir e.0 m is)
         below)) rest
 

@@ -7,8 +7,8 @@ use Rattle.std.specs.Cmp.Lexicographic.{nat_list_cmp_total}
 use Rattle.std.specs.FinMap.{find, is_sorted}
 use Rattle.std.specs.FinMap.Entries.{below_all}
 use Rattle.std.proofs.lemmas.Bool.{and_parts, and_from}
-use Rattle.nl_types.specs.declared.reply.Node.{Node}
-use Rattle.nl_types.specs.declared.reply.Node.TheVariants.{Dir, File}
+use Rattle.nl_types.specs.declared.reply.Object.{Object}
+use Rattle.nl_types.specs.declared.reply.Object.TheVariants.{Dir, File}
 use Rattle.nl_types.specs.Plain.Paths.{Name, Path, name_cmp, path_cmp, same_name, same_path}
 use Rattle.nl_types.specs.Plain.Trees.{Tree, IsTree, lookup}
 use Rattle.nl_types.specs.Facts.Lookups.{same_name-equal, same_name-itself, same_path-itself}
@@ -16,7 +16,7 @@ use Rattle.nl_types.specs.Facts.TreeLaws.{same_path-equal}
 use Rattle.nl_manifests.specs.declared.manifest.Line.{Line}
 use Rattle.nl_manifests.specs.declared.manifest.Manifest.{Manifest}
 use Rattle.nl_manifests.specs.Manifests.{IsManifest, ascend, are_attributes, are_lines, is_line, is_manifest}
-use Rattle.nl_manifests.specs.HostTrees.{line_named, manifest_at, manifest_for, manifest_in_node, manifest_name}
+use Rattle.nl_manifests.specs.HostTrees.{line_named, manifest_at, manifest_for, manifest_in_object, manifest_name}
 use Rattle.nl_manifests.specs.Private.Opening.{Manifests, manifest_entry, manifests}
 use Rattle.nl_manifests.proofs.Read.{read_found}
 use Rattle.nl_manifests.proofs.Sorted.{absent, less_is}
@@ -63,11 +63,11 @@ pub manifest_dir : (tree : Tree) → IsTree tree → (d : Path) (m : Manifest) �
     → lookup tree d ≡ Some Dir
 manifest_dir tree t d m is = t.parents d manifest_name (by (lookup tree (d ++ manifest_name ∷ [])) is)
   where
-    by : (o : Option Node) → Met (manifest_in_node o) (Some m) → is_some o ≡ true
+    by : (o : Option Object) → Met (manifest_in_object o) (Some m) → is_some o ≡ true
     by None is = absurd (not_none m is)
-    by (Some node) is = refl
+    by (Some object) is = refl
 
-no_file_is_dir : (bytes : List ℕ) → ◌≡◌ {A = Option Node} (Some (File bytes)) (Some Dir) → ⊥
+no_file_is_dir : (bytes : List ℕ) → ◌≡◌ {A = Option Object} (Some (File bytes)) (Some Dir) → ⊥
 no_file_is_dir bytes is = cc
 
 pub found_manifests : (tree : Tree) → IsTree tree → (d : Path) → find path_cmp d (manifests tree) ≡
@@ -75,7 +75,7 @@ pub found_manifests : (tree : Tree) → IsTree tree → (d : Path) → find path
 found_manifests tree t d =
     found_in_entries tree tree d t.ordered ∙ by (lookup tree d) refl (manifest_at tree d) refl
   where
-    by : (o : Option Node) → lookup tree d ≡ o → (k : Option Manifest) → manifest_at tree d ≡ k
+    by : (o : Option Object) → lookup tree d ≡ o → (k : Option Manifest) → manifest_at tree d ≡ k
         → Met (option_and_then (manifest_for tree d) o) k
     by (Some Dir) there k is = is
     by (Some (File bytes)) there None is = refl
@@ -90,7 +90,7 @@ found_manifests tree t d =
 pub manifest_at_is : (tree : Tree) (d : Path) (m : Manifest) → manifest_at tree d ≡ Some m → IsManifest m
 manifest_at_is tree d m is = by (lookup tree (d ++ manifest_name ∷ [])) is
   where
-    by : (o : Option Node) → Met (manifest_in_node o) (Some m) → IsManifest m
+    by : (o : Option Object) → Met (manifest_in_object o) (Some m) → IsManifest m
     by None is = absurd (not_none m is)
     by (Some Dir) is = absurd (not_none m is)
     by (Some (File bytes)) is = (read_found bytes m is).0

@@ -3,8 +3,8 @@ use Rattle.std.proofs.Common.{◌≡◌, ◌⊎◌, true, false, cond, List, [],
 use Rattle.std.specs.List.{flat_map}
 use Rattle.std.specs.FinMap.{find}
 use Rattle.std.proofs.lemmas.Option.{same_Some}
-use Rattle.nl_types.specs.declared.reply.Node.{Node}
-use Rattle.nl_types.specs.declared.reply.Node.TheVariants.{Dir, File}
+use Rattle.nl_types.specs.declared.reply.Object.{Object}
+use Rattle.nl_types.specs.declared.reply.Object.TheVariants.{Dir, File}
 use Rattle.nl_types.specs.Plain.Paths.{Name, Path, is_name, path_cmp, same_name}
 use Rattle.nl_types.specs.Plain.Trees.{Tree, IsTree, lookup}
 use Rattle.nl_types.specs.Facts.Lookups.{same_name-equal, same_path-itself}
@@ -12,7 +12,7 @@ use Rattle.nl_manifests.specs.declared.manifest.Line.{Line}
 use Rattle.nl_manifests.specs.declared.manifest.Manifest.{Manifest}
 use Rattle.nl_manifests.specs.declared.host_tree.HostEntry.{HostEntry}
 use Rattle.nl_manifests.specs.HostTrees.{HostTree, last_name, line_in, line_named, manifest_above, manifest_at, parted, shown_at, shown_directory, shown_in, shown_link}
-use Rattle.nl_manifests.specs.Private.Opening.{above_in, entry_if, link_part, link_where, links_part, manifests, node_part, parts}
+use Rattle.nl_manifests.specs.Private.Opening.{above_in, entry_if, link_part, link_where, links_part, manifests, object_part, parts}
 use Rattle.nl_manifests.specs.Private.Places.{puts}
 use Rattle.nl_manifests.proofs.Kept.{AreNamed, Stand, are_named, entries_stand, found_manifests, lines_ascend, lines_sorted, manifest_at_is, manifest_dir, not_none}
 use Rattle.nl_manifests.proofs.Shown.{Are, Are-append, ending_of, found_among, found_left, found_right, parted_ends, puts_are}
@@ -36,16 +36,16 @@ no_line : (n : Name) (v : HostEntry) → Met (shown_link n None) (Some v) → �
 no_line n v found = elim (is_name n) as (λ b. Met (cond b None None) (Some v) → ⊥)
     [ true ↦ λ is. absurd (not_none v is) | false ↦ λ is. absurd (not_none v is) ] found
 
-abbrev part_of : Tree → Path × Node → HostTree
-part_of tree e = node_part tree (manifests tree) e.0 e.1
+abbrev part_of : Tree → Path × Object → HostTree
+part_of tree e = object_part tree (manifests tree) e.0 e.1
 
 module _ (tree : Tree) (t : IsTree tree) where
   -- what is shown at a path below a directory
-  shown_below : (d : Path) (n : Name) (own : Option Manifest) (node : Option Node)
-      → shown_in (manifest_above tree (parted (d ++ n ∷ []))) (last_name (parted (d ++ n ∷ []))) own node
-      ≡ shown_in (manifest_at tree d) n own node
-  shown_below d n own node =
-      ap (λ (o : Option (Path × Name)). shown_in (manifest_above tree o) (last_name o) own node)
+  shown_below : (d : Path) (n : Name) (own : Option Manifest) (object : Option Object)
+      → shown_in (manifest_above tree (parted (d ++ n ∷ []))) (last_name (parted (d ++ n ∷ []))) own object
+      ≡ shown_in (manifest_at tree d) n own object
+  shown_below d n own object =
+      ap (λ (o : Option (Path × Name)). shown_in (manifest_above tree o) (last_name o) own object)
       (parted_ends d n)
 
   above_is : (o : Option (Path × Name)) → above_in (manifests tree) o ≡ manifest_above tree o
@@ -61,10 +61,10 @@ module _ (tree : Tree) (t : IsTree tree) where
       entry_are (shown_at tree) (d ++ l.name ∷ []) (link_where (lookup tree (d ++ l.name ∷ [])) l)
       (by (lookup tree (d ++ l.name ∷ [])) refl)
     where
-      by : (o : Option Node) → lookup tree (d ++ l.name ∷ []) ≡ o → (v : HostEntry) → Met (link_where o l)
+      by : (o : Option Object) → lookup tree (d ++ l.name ∷ []) ≡ o → (v : HostEntry) → Met (link_where o l)
           (Some v)
           → shown_at tree (d ++ l.name ∷ []) ≡ Some v
-      by (Some node) there v found = absurd (not_none v found)
+      by (Some object) there v found = absurd (not_none v found)
       by None there v found =
           shown_below d l.name (manifest_at tree (d ++ l.name ∷ [])) (lookup tree (d ++ l.name ∷ []))
           ∙ ap (shown_in (manifest_at tree d) l.name (manifest_at tree (d ++ l.name ∷ []))) there
@@ -86,15 +86,15 @@ module _ (tree : Tree) (t : IsTree tree) where
       links_are d m is m.lines
       (are_named m.lines (lines_sorted m.lines (lines_ascend m (manifest_at_is tree d m is))))
 
-  node_are : (path : Path) (node : Node) → lookup tree path ≡ Some node
-      → Are (shown_at tree) (node_part tree (manifests tree) path node)
-  node_are path Dir is =
+  object_are : (path : Path) (object : Object) → lookup tree path ≡ Some object
+      → Are (shown_at tree) (object_part tree (manifests tree) path object)
+  object_are path Dir is =
       let own = found_manifests tree t path in (
         ap (shown_in (manifest_above tree (parted path)) (last_name (parted path)) (manifest_at tree path)) is
             ∙ ap (λ (k : Option Manifest). Some (shown_directory k)) (sym own),
         dir_links_are path (find path_cmp path (manifests tree)) (sym own),
       )
-  node_are path (File bytes) is =
+  object_are path (File bytes) is =
       entry_are (shown_at tree) path
       (shown_in (above_in (manifests tree) (parted path)) (last_name (parted path)) None (Some (File bytes)))
       (λ v found.
@@ -105,8 +105,8 @@ module _ (tree : Tree) (t : IsTree tree) where
   parts_are : (es : Tree) → Stand tree es → Are (shown_at tree) (parts tree (manifests tree) es)
   parts_are [] stand = tt
   parts_are (e ∷ es) stand =
-      Are-append (shown_at tree) (node_part tree (manifests tree) e.0 e.1) (parts tree (manifests tree) es)
-      (node_are e.0 e.1 stand.0) (parts_are es stand.1)
+      Are-append (shown_at tree) (object_part tree (manifests tree) e.0 e.1) (parts tree (manifests tree) es)
+      (object_are e.0 e.1 stand.0) (parts_are es stand.1)
 
   -- ---- what is shown is put together
 
@@ -131,7 +131,7 @@ module _ (tree : Tree) (t : IsTree tree) where
                 let one : is_some (find path_cmp (d ++ n ∷ []) (entry_if (d ++ n ∷ []) (link_where (lookup
                 tree (d ++ n ∷ [])) k))) ≡ true =
                 entry_found (d ++ n ∷ []) (link_where (lookup tree (d ++ n ∷ [])) k) v
-                (ap (λ (o : Option Node). link_where o k) free
+                (ap (λ (o : Option Object). link_where o k) free
                 ∙ ap (λ (x : Name). shown_link x (Some k)) (sym names)
                 ∙ ap (λ (x : Line). shown_link n (Some x)) lines ∙ found) in
                 found_left (d ++ n ∷ []) (link_part tree d k) (flat_map (link_part tree d) some)
@@ -146,7 +146,7 @@ module _ (tree : Tree) (t : IsTree tree) where
       → is_some (find path_cmp q (parts tree (manifests tree) tree)) ≡ true
   covers q v is = by (lookup tree q) refl
     where
-      shown : (o : Option Node) → lookup tree q ≡ o
+      shown : (o : Option Object) → lookup tree q ≡ o
           → Met (shown_in (manifest_above tree (parted q)) (last_name (parted q)) (manifest_at tree q) o)
           (Some v)
       shown o there =
@@ -181,7 +181,7 @@ module _ (tree : Tree) (t : IsTree tree) where
           (found_right q ((d, shown_directory (find path_cmp d (manifests tree))) ∷ []) (links_part tree d
           (find path_cmp d (manifests tree))) here)
 
-      by : (o : Option Node) → lookup tree q ≡ o → is_some (find path_cmp q (parts tree (manifests tree)
+      by : (o : Option Object) → lookup tree q ≡ o → is_some (find path_cmp q (parts tree (manifests tree)
           tree)) ≡ true
       by (Some Dir) there =
           found_among (part_of tree) q q Dir tree there

@@ -4,7 +4,7 @@ use Rattle.std.specs.Prelude.{nat_le}
 use Rattle.std.specs.List.{list_all}
 use Rattle.std.specs.FinMap.{find}
 use Rattle.std.proofs.lemmas.Bool.{and_parts, and_from, leb-true}
-use Rattle.nl_types.specs.declared.reply.Node.TheVariants.{Dir, File}
+use Rattle.nl_types.specs.declared.reply.Object.TheVariants.{Dir, File}
 use Rattle.nl_types.specs.Plain.Limits.{file_limit, path_limit}
 use Rattle.nl_types.specs.Plain.Paths.{Name, Path, is_name, path_cmp, same_name}
 use Rattle.nl_types.specs.Plain.Trees.{IsTree, Tree, lookup}
@@ -13,15 +13,15 @@ use Rattle.nl_manifests.specs.declared.manifest.Manifest.{Manifest}
 use Rattle.nl_manifests.specs.declared.host_tree.HostEntry.{HostEntry}
 use Rattle.nl_manifests.specs.HostTrees.{HostTree, manifest_name}
 use Rattle.nl_manifests.specs.Manifests.{printed}
-use Rattle.nl_manifests.specs.Sealed.{IsSealed, is_directory, is_host_tree, is_small, is_within_limits, manifest_of, own_node, sealed_in}
-use Rattle.nl_manifests.proofs.SealedTrees.{all_found, directory_node, has_manifest, own_stands, root_is, root_there, sealed_below, stands}
+use Rattle.nl_manifests.specs.Sealed.{IsSealed, is_directory, is_host_tree, is_small, is_within_limits, manifest_of, own_object, sealed_in}
+use Rattle.nl_manifests.proofs.SealedTrees.{all_found, directory_object, has_manifest, own_stands, root_is, root_there, sealed_below, stands}
 use Rattle.nl_manifests.proofs.Shown.{ending_of}
 
 module _ (shown : HostTree) (whole : is_host_tree shown ≡ true) (tree : Tree) (made : IsSealed shown tree) where
   -- a directory of the host is one
-  directory_there : (dir : Path) (e : HostEntry) → find path_cmp dir shown ≡ Some e → is_directory e.node ≡ true
+  directory_there : (dir : Path) (e : HostEntry) → find path_cmp dir shown ≡ Some e → is_directory e.object ≡ true
       → lookup tree dir ≡ Some Dir
-  directory_there dir e found is = made.each dir ∙ own_stands shown whole dir e found ∙ directory_node e.node is
+  directory_there dir e found is = made.each dir ∙ own_stands shown whole dir e found ∙ directory_object e.object is
 
   root_dir : lookup tree [] ≡ Some Dir
   root_dir = by (find path_cmp [] shown) refl
@@ -39,7 +39,7 @@ module _ (shown : HostTree) (whole : is_host_tree shown ≡ true) (tree : Tree) 
       by (manifest_of shown dir) refl
       (sym (ap is_some (made.each (dir ++ name ∷ []) ∙ sealed_below shown whole dir name)) ∙ there)
     where
-      own : (o : Option HostEntry) → find path_cmp (dir ++ name ∷ []) shown ≡ o → is_some (own_node o) ≡ true
+      own : (o : Option HostEntry) → find path_cmp (dir ++ name ∷ []) shown ≡ o → is_some (own_object o) ≡ true
           → IsBelow dir name
       own None found some = absurd (true≢false (sym some))
       own (Some e) found some =
@@ -51,7 +51,7 @@ module _ (shown : HostTree) (whole : is_host_tree shown ≡ true) (tree : Tree) 
       by None is some = own (find path_cmp (dir ++ name ∷ []) shown) refl some
       by (Some m) is some =
           elim (same_name name manifest_name) as (λ t. same_name name manifest_name ≡ t
-          → is_some (cond t (Some (File (printed m))) (own_node (find path_cmp (dir ++ name ∷ []) shown))) ≡ true
+          → is_some (cond t (Some (File (printed m))) (own_object (find path_cmp (dir ++ name ∷ []) shown))) ≡ true
           → IsBelow dir name) [
             | true ↦ λ same _.
                 let h = has_manifest shown whole dir m is in (

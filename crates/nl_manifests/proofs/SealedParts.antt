@@ -6,19 +6,19 @@ use Rattle.std.specs.Ordering.{is_lt}
 use Rattle.std.specs.FinMap.{find, is_sorted}
 use Rattle.std.specs.FinMap.Entries.{below_all}
 use Rattle.std.proofs.lemmas.Bool.{and_parts, and_from}
-use Rattle.nl_types.specs.declared.reply.Node.{Node}
-use Rattle.nl_types.specs.declared.reply.Node.TheVariants.{Dir, File}
+use Rattle.nl_types.specs.declared.reply.Object.{Object}
+use Rattle.nl_types.specs.declared.reply.Object.TheVariants.{Dir, File}
 use Rattle.nl_types.specs.Plain.Paths.{Name, Path, path_cmp, same_name}
 use Rattle.nl_types.specs.Plain.Trees.{Tree}
 use Rattle.nl_types.specs.Facts.Lookups.{same_name-equal, same_path-itself}
 use Rattle.nl_manifests.specs.declared.manifest.Line.{Line}
 use Rattle.nl_manifests.specs.declared.manifest.Manifest.{Manifest}
-use Rattle.nl_manifests.specs.declared.host_tree.HostNode.{HostNode}
-use Rattle.nl_manifests.specs.declared.host_tree.HostNode.TheVariants as host
+use Rattle.nl_manifests.specs.declared.host_tree.HostObject.{HostObject}
+use Rattle.nl_manifests.specs.declared.host_tree.HostObject.TheVariants as host
 use Rattle.nl_manifests.specs.declared.host_tree.HostEntry.{HostEntry}
 use Rattle.nl_manifests.specs.HostTrees.{HostTree, last_name, manifest_name, parted}
 use Rattle.nl_manifests.specs.Manifests.{printed}
-use Rattle.nl_manifests.specs.Sealed.{IsSealed, is_directory, is_host_tree, line_under, lines_in, manifest_of, manifest_over, manifest_with, node_of, own_node, sealed_at, sealed_in}
+use Rattle.nl_manifests.specs.Sealed.{IsSealed, is_directory, is_host_tree, line_under, lines_in, manifest_of, manifest_over, manifest_with, object_of, own_object, sealed_at, sealed_in}
 use Rattle.nl_manifests.specs.Private.Places.{Puts, puts}
 use Rattle.nl_manifests.specs.Private.Sealing.{lines_until, manifest_part, own_manifest, sealed_part, sealed_parts}
 use Rattle.nl_manifests.proofs.HostLines.{no_line_itself, no_lines_before, until_is}
@@ -30,7 +30,7 @@ use Rattle.nl_manifests.proofs.Shown.{Are, Are-append, ending_of, found_among, f
 
 -- what an entry becomes, by the lines of all that is in it
 abbrev part_in : HostTree → Path × HostEntry → Tree
-part_in shown e = sealed_part e.0 e.1.node (manifest_with (lines_in shown e.0) e.1.node e.1.attributes)
+part_in shown e = sealed_part e.0 e.1.object (manifest_with (lines_in shown e.0) e.1.object e.1.attributes)
 
 sorted_from : (front es : HostTree) → is_sorted path_cmp (front ++ es) ≡ true → is_sorted path_cmp es ≡ true
 sorted_from [] es sorted = sorted
@@ -69,8 +69,8 @@ parts_by front (e ∷ es) sorted =
     let rest =
     parts_by (front ++ e ∷ []) es (ap (is_sorted path_cmp) whole ∙ sorted)
     ∙ ap (λ (x : HostTree). flat_map (part_in x) es) whole in
-    let here : sealed_part e.0 e.1.node (own_manifest e es) ≡ part_in (front ++ e ∷ es) e =
-    ap (λ (x : List Line). sealed_part e.0 e.1.node (manifest_with x e.1.node e.1.attributes))
+    let here : sealed_part e.0 e.1.object (own_manifest e es) ≡ part_in (front ++ e ∷ es) e =
+    ap (λ (x : List Line). sealed_part e.0 e.1.object (manifest_with x e.1.object e.1.attributes))
     (lines_are front e es sorted) in
     λ i. here i ++ rest i
 
@@ -78,9 +78,9 @@ parts_by front (e ∷ es) sorted =
 
 module _ (shown : HostTree) (whole : is_host_tree shown ≡ true) where
   manifest_is : (e : Path × HostEntry) → find path_cmp e.0 shown ≡ Some e.1
-      → manifest_of shown e.0 ≡ manifest_with (lines_in shown e.0) e.1.node e.1.attributes
+      → manifest_of shown e.0 ≡ manifest_with (lines_in shown e.0) e.1.object e.1.attributes
   manifest_is e found =
-      ap (option_and_then (λ x. manifest_with (lines_in shown e.0) x.node x.attributes)) found
+      ap (option_and_then (λ x. manifest_with (lines_in shown e.0) x.object x.attributes)) found
 
   manifest_are : (path : Path) (k : Option Manifest) → manifest_of shown path ≡ k
       → Are (sealed_at shown) (manifest_part path k)
@@ -91,8 +91,8 @@ module _ (shown : HostTree) (whole : is_host_tree shown ≡ true) where
     tt,
   )
 
-  part_are : (path : Path) (node : HostNode) (k : Option Manifest) → sealed_at shown path ≡ node_of node
-      → manifest_of shown path ≡ k → Are (sealed_at shown) (sealed_part path node k)
+  part_are : (path : Path) (object : HostObject) (k : Option Manifest) → sealed_at shown path ≡ object_of object
+      → manifest_of shown path ≡ k → Are (sealed_at shown) (sealed_part path object k)
   part_are path host.Directory k own is = (own, manifest_are path k is)
   part_are path (host.File bytes) k own is = (own, tt)
   part_are path (host.Link target) k own is = tt
@@ -101,18 +101,18 @@ module _ (shown : HostTree) (whole : is_host_tree shown ≡ true) where
   all_are [] stand = tt
   all_are (e ∷ es) stand =
       Are-append (sealed_at shown) (part_in shown e) (flat_map (part_in shown) es)
-      (part_are e.0 e.1.node (manifest_with (lines_in shown e.0) e.1.node e.1.attributes)
+      (part_are e.0 e.1.object (manifest_with (lines_in shown e.0) e.1.object e.1.attributes)
       (own_stands shown whole e.0 e.1 stand.0) (manifest_is e stand.0))
       (all_are es stand.1)
 
   -- ---- all that the tree has is among them
 
-  own_found : (q : Path) (e : HostEntry) (v : Node) → node_of e.node ≡ Some v
+  own_found : (q : Path) (e : HostEntry) (v : Object) → object_of e.object ≡ Some v
       → is_some (find path_cmp q (part_in shown (q, e))) ≡ true
-  own_found q e v is = by e.node is (manifest_with (lines_in shown q) e.node e.attributes)
+  own_found q e v is = by e.object is (manifest_with (lines_in shown q) e.object e.attributes)
     where
-      by : (node : HostNode) → node_of node ≡ Some v → (k : Option Manifest)
-          → is_some (find path_cmp q (sealed_part q node k)) ≡ true
+      by : (object : HostObject) → object_of object ≡ Some v → (k : Option Manifest)
+          → is_some (find path_cmp q (sealed_part q object k)) ≡ true
       by host.Directory is k =
           ap (λ t. is_some (cond t (Some Dir) (find path_cmp q (manifest_part q k)))) (same_path-itself q)
       by (host.File bytes) is k =
@@ -123,13 +123,13 @@ module _ (shown : HostTree) (whole : is_host_tree shown ≡ true) where
       → is_some (find path_cmp (dir ++ manifest_name ∷ []) (flat_map (part_in shown) shown)) ≡ true
   manifest_found dir m is =
       let h = has_manifest shown whole dir m is in
-      let own : manifest_with (lines_in shown dir) h.entry.node h.entry.attributes ≡ Some m =
+      let own : manifest_with (lines_in shown dir) h.entry.object h.entry.attributes ≡ Some m =
       sym (manifest_is (dir, h.entry) h.found) ∙ is in
       found_among (part_in shown) (dir ++ manifest_name ∷ []) dir h.entry shown h.found
-      (by h.entry.node h.directory (manifest_with (lines_in shown dir) h.entry.node h.entry.attributes) own)
+      (by h.entry.object h.directory (manifest_with (lines_in shown dir) h.entry.object h.entry.attributes) own)
     where
-      by : (node : HostNode) → is_directory node ≡ true → (k : Option Manifest) → k ≡ Some m
-          → is_some (find path_cmp (dir ++ manifest_name ∷ []) (sealed_part dir node k)) ≡ true
+      by : (object : HostObject) → is_directory object ≡ true → (k : Option Manifest) → k ≡ Some m
+          → is_some (find path_cmp (dir ++ manifest_name ∷ []) (sealed_part dir object k)) ≡ true
       by host.Directory dir_is None own = absurd (not_none m own)
       by host.Directory dir_is (Some k) own =
           found_right (dir ++ manifest_name ∷ []) ((dir, Dir) ∷ []) (manifest_part dir (Some k))
@@ -137,16 +137,16 @@ module _ (shown : HostTree) (whole : is_host_tree shown ≡ true) where
       by (host.File bytes) dir_is k own = absurd (true≢false (sym dir_is))
       by (host.Link target) dir_is k own = absurd (true≢false (sym dir_is))
 
-  own_covered : (q : Path) (v : Node) → own_node (find path_cmp q shown) ≡ Some v
+  own_covered : (q : Path) (v : Object) → own_object (find path_cmp q shown) ≡ Some v
       → is_some (find path_cmp q (flat_map (part_in shown) shown)) ≡ true
   own_covered q v is = by (find path_cmp q shown) refl is
     where
-      by : (o : Option HostEntry) → find path_cmp q shown ≡ o → own_node o ≡ Some v
+      by : (o : Option HostEntry) → find path_cmp q shown ≡ o → own_object o ≡ Some v
           → is_some (find path_cmp q (flat_map (part_in shown) shown)) ≡ true
       by None there is = absurd (not_none v is)
       by (Some e) there is = found_among (part_in shown) q q e shown there (own_found q e v is)
 
-  covered : (q : Path) (v : Node) → sealed_at shown q ≡ Some v
+  covered : (q : Path) (v : Object) → sealed_at shown q ≡ Some v
       → is_some (find path_cmp q (flat_map (part_in shown) shown)) ≡ true
   covered q v is = by (ending_of q)
     where
@@ -156,7 +156,7 @@ module _ (shown : HostTree) (whole : is_host_tree shown ≡ true) where
       in_dir dir n at None is_k has = own_covered q v has
       in_dir dir n at (Some m) is_k has =
           elim (same_name n manifest_name) as (λ t. same_name n manifest_name ≡ t
-          → cond t (Some (File (printed m))) (own_node (find path_cmp q shown)) ≡ Some v
+          → cond t (Some (File (printed m))) (own_object (find path_cmp q shown)) ≡ Some v
           → is_some (find path_cmp q (flat_map (part_in shown) shown)) ≡ true) [
             | true ↦ λ same _.
                 let place : q ≡ dir ++ manifest_name ∷ [] =

@@ -5,8 +5,8 @@ use Rattle.std.specs.List.{flat_map, list_all}
 use Rattle.std.specs.FinMap.{find, is_sorted}
 use Rattle.std.proofs.lemmas.Bool.{and_parts, and_from}
 use Rattle.std.proofs.lemmas.Option.{same_Some}
-use Rattle.nl_types.specs.declared.reply.Node.{Node}
-use Rattle.nl_types.specs.declared.reply.Node.TheVariants.{Dir, File}
+use Rattle.nl_types.specs.declared.reply.Object.{Object}
+use Rattle.nl_types.specs.declared.reply.Object.TheVariants.{Dir, File}
 use Rattle.nl_types.specs.Plain.Paths.{Name, Path, is_name, path_cmp, same_name, same_path}
 use Rattle.nl_types.specs.Plain.Trees.{Tree, lookup, name_below}
 use Rattle.nl_types.specs.Facts.TreeLaws.{same_path-equal}
@@ -14,14 +14,14 @@ use Rattle.nl_manifests.specs.declared.attributes.Attributes.{Attributes}
 use Rattle.nl_manifests.specs.declared.manifest.LineKind.TheVariants as kind
 use Rattle.nl_manifests.specs.declared.manifest.Line.{Line}
 use Rattle.nl_manifests.specs.declared.manifest.Manifest.{Manifest}
-use Rattle.nl_manifests.specs.declared.host_tree.HostNode.{HostNode}
-use Rattle.nl_manifests.specs.declared.host_tree.HostNode.TheVariants as host
+use Rattle.nl_manifests.specs.declared.host_tree.HostObject.{HostObject}
+use Rattle.nl_manifests.specs.declared.host_tree.HostObject.TheVariants as host
 use Rattle.nl_manifests.specs.declared.host_tree.HostEntry.{HostEntry}
 use Rattle.nl_manifests.specs.declared.host_tree.LineFault.TheVariants.{BadName}
 use Rattle.nl_manifests.specs.Manifests.{are_attributes, are_lines, ascend, is_line, is_manifest, is_text, printed}
 use Rattle.nl_manifests.specs.Readings.{manifest_in}
-use Rattle.nl_manifests.specs.HostTrees.{HostTree, Refused, Shows, fault_of, last_name, line_in, line_named, manifest_above, manifest_at, manifest_for, manifest_in_node, manifest_name, one_if, parted, refused, refused_in, refused_line, shown_at, shown_directory, shown_file, shown_in, shown_link}
-use Rattle.nl_manifests.specs.Sealed.{IsSealed, is_directory, is_host_entry, is_host_tree, is_placed, is_whole, kind_of, line_under, line_with, lines_in, manifest_of, manifest_over, manifest_with, may_stand, needs_none, node_of, own_node, sealed_at, sealed_in, stands_below}
+use Rattle.nl_manifests.specs.HostTrees.{HostTree, Refused, Shows, fault_of, last_name, line_in, line_named, manifest_above, manifest_at, manifest_for, manifest_in_object, manifest_name, one_if, parted, refused, refused_in, refused_line, shown_at, shown_directory, shown_file, shown_in, shown_link}
+use Rattle.nl_manifests.specs.Sealed.{IsSealed, is_directory, is_host_entry, is_host_tree, is_placed, is_whole, kind_of, line_under, line_with, lines_in, manifest_of, manifest_over, manifest_with, may_stand, needs_none, object_of, own_object, sealed_at, sealed_in, stands_below}
 use Rattle.nl_manifests.proofs.HostLines.{below_is, found_line, line_told, lines_in_order, sorted_ascend}
 use Rattle.nl_manifests.proofs.Kept.{Stand, entries_stand, not_none}
 use Rattle.nl_manifests.proofs.Read.{read_again}
@@ -43,34 +43,34 @@ all_found {X} P (e ∷ es) q x all found =
       | false ↦ λ _ behind. all_found P es q x parts.1 behind
     ] refl found
 
--- ---- nodes
+-- ---- objects
 
-directory_shown : (lines : List Line) (node : HostNode) (attributes : Option Attributes)
-    → is_directory node ≡ true
-    → shown_directory (manifest_with lines node attributes)
-    ≡ record { node = node; attributes = attributes }
+directory_shown : (lines : List Line) (object : HostObject) (attributes : Option Attributes)
+    → is_directory object ≡ true
+    → shown_directory (manifest_with lines object attributes)
+    ≡ record { object = object; attributes = attributes }
 directory_shown lines host.Directory None is = refl
 directory_shown lines host.Directory (Some own) is = refl
 directory_shown lines (host.File bytes) attributes is = absurd (true≢false (sym is))
 directory_shown lines (host.Link target) attributes is = absurd (true≢false (sym is))
 
-pub directory_node : (node : HostNode) → is_directory node ≡ true → node_of node ≡ Some Dir
-directory_node host.Directory is = refl
-directory_node (host.File bytes) is = absurd (true≢false (sym is))
-directory_node (host.Link target) is = absurd (true≢false (sym is))
+pub directory_object : (object : HostObject) → is_directory object ≡ true → object_of object ≡ Some Dir
+directory_object host.Directory is = refl
+directory_object (host.File bytes) is = absurd (true≢false (sym is))
+directory_object (host.Link target) is = absurd (true≢false (sym is))
 
 -- a directory that has attributes has a manifest
-own_told : (lines : List Line) (node : HostNode) (attributes : Option Attributes) → is_directory node ≡ true
-    → ◌≡◌ {A = Option Manifest} (manifest_with lines node attributes) None → attributes ≡ None
+own_told : (lines : List Line) (object : HostObject) (attributes : Option Attributes) → is_directory object ≡ true
+    → ◌≡◌ {A = Option Manifest} (manifest_with lines object attributes) None → attributes ≡ None
 own_told lines host.Directory None is none = refl
 own_told lines host.Directory (Some own) is none = absurd (not_none _ (sym none))
 own_told lines (host.File bytes) attributes is none = absurd (true≢false (sym is))
 own_told lines (host.Link target) attributes is none = absurd (true≢false (sym is))
 
 -- and its manifest tells them
-own_is : (lines : List Line) (node : HostNode) (attributes : Option Attributes) (m : Manifest)
-    → ◌≡◌ {A = Option Manifest} (manifest_with lines node attributes) (Some m)
-    → (is_directory node ≡ true) × (attributes ≡ Some m.own) × (lines ≡ m.lines)
+own_is : (lines : List Line) (object : HostObject) (attributes : Option Attributes) (m : Manifest)
+    → ◌≡◌ {A = Option Manifest} (manifest_with lines object attributes) (Some m)
+    → (is_directory object ≡ true) × (attributes ≡ Some m.own) × (lines ≡ m.lines)
 own_is lines host.Directory None m is = absurd (not_none m is)
 own_is lines host.Directory (Some own) m is =
     let same = same_Some (record { own = own; lines = lines }) m is in
@@ -78,13 +78,13 @@ own_is lines host.Directory (Some own) m is =
 own_is lines (host.File bytes) attributes m is = absurd (not_none m is)
 own_is lines (host.Link target) attributes m is = absurd (not_none m is)
 
-whole_told : (node : HostNode) (own : Attributes) → is_whole node (Some own) ≡ true → are_attributes own ≡ true
+whole_told : (object : HostObject) (own : Attributes) → is_whole object (Some own) ≡ true → are_attributes own ≡ true
 whole_told host.Directory own is = is
 whole_told (host.File bytes) own is = is
 whole_told (host.Link target) own is = (and_parts (is_text target) (are_attributes own) is).1
 
-line_whole : (name : Name) (node : HostNode) (attributes : Option Attributes) → is_whole node attributes ≡ true
-    → is_text name ≡ true → list_all is_line (line_with name (kind_of node) attributes) ≡ true
+line_whole : (name : Name) (object : HostObject) (attributes : Option Attributes) → is_whole object attributes ≡ true
+    → is_text name ≡ true → list_all is_line (line_with name (kind_of object) attributes) ≡ true
 unfolding is_line
 line_whole name host.Directory attributes is text = refl
 line_whole name (host.File bytes) None is text = refl
@@ -109,7 +109,7 @@ all_append P (x ∷ a) b first then =
 pub record StandsIn (tree : HostTree) (dir : Path) (name : Name) (e : HostEntry) : Type 0 where
   pub above : HostEntry
   pub found : find path_cmp dir tree ≡ Some above
-  pub directory : is_directory above.node ≡ true
+  pub directory : is_directory above.object ≡ true
   pub named : is_name name ≡ true
   pub text : is_text name ≡ true
   pub may : may_stand above.attributes name e ≡ true
@@ -123,7 +123,7 @@ stands_by tree dir name e is = by (find path_cmp dir tree) refl is
     by None there is = absurd (true≢false (sym is))
     by (Some d) there is =
         let first =
-        and_parts (is_directory d.node) (is_name name && is_text name && may_stand d.attributes name e) is in
+        and_parts (is_directory d.object) (is_name name && is_text name && may_stand d.attributes name e) is in
         let then = and_parts (is_name name && is_text name) (may_stand d.attributes name e) first.1 in
         let names = and_parts (is_name name) (is_text name) then.0 in
         record {
@@ -148,9 +148,9 @@ module _ (shown : HostTree) (whole : is_host_tree shown ≡ true) where
       (and_parts (is_some (find path_cmp [] shown)) _ (and_parts (is_sorted path_cmp shown) _ whole).1).1
 
   pub entry_is : (q : Path) (e : HostEntry) → find path_cmp q shown ≡ Some e
-      → (is_whole e.node e.attributes ≡ true) × (is_placed shown (parted q) e ≡ true)
+      → (is_whole e.object e.attributes ≡ true) × (is_placed shown (parted q) e ≡ true)
   entry_is q e found =
-      and_parts (is_whole e.node e.attributes) (is_placed shown (parted q) e)
+      and_parts (is_whole e.object e.attributes) (is_placed shown (parted q) e)
       (all_found (is_host_entry shown) shown q e entries_are found)
 
   pub stands : (dir : Path) (name : Name) (e : HostEntry) → find path_cmp (dir ++ name ∷ []) shown ≡ Some e
@@ -160,7 +160,7 @@ module _ (shown : HostTree) (whole : is_host_tree shown ≡ true) where
       (ap (λ (p : Option (Path × Name)). is_placed shown p e) (sym (parted_ends dir name))
       ∙ (entry_is (dir ++ name ∷ []) e found).1)
 
-  pub root_is : (e : HostEntry) → find path_cmp [] shown ≡ Some e → is_directory e.node ≡ true
+  pub root_is : (e : HostEntry) → find path_cmp [] shown ≡ Some e → is_directory e.object ≡ true
   root_is e found = (entry_is [] e found).1
 
   -- ---- manifests
@@ -178,17 +178,17 @@ module _ (shown : HostTree) (whole : is_host_tree shown ≡ true) where
           → list_all is_line (line_under o e.1) ≡ true
       by None below is = refl
       by (Some n) below is =
-          let parts = and_parts (is_whole e.1.node e.1.attributes) (is_placed shown (parted e.0) e.1) is in
+          let parts = and_parts (is_whole e.1.object e.1.attributes) (is_placed shown (parted e.0) e.1) is in
           let s = stands_by shown dir n e.1
           (sym (ap (λ (p : Path). is_placed shown (parted p) e.1) (below_is dir e.0 n below)
           ∙ ap (λ (p : Option (Path × Name)). is_placed shown p e.1) (parted_ends dir n)) ∙ parts.1) in
-          line_whole n e.1.node e.1.attributes parts.0 s.text
+          line_whole n e.1.object e.1.attributes parts.0 s.text
 
   -- what a directory's manifest has
   pub record HasManifest (dir : Path) (m : Manifest) : Type 0 where
     pub entry : HostEntry
     pub found : find path_cmp dir shown ≡ Some entry
-    pub directory : is_directory entry.node ≡ true
+    pub directory : is_directory entry.object ≡ true
     pub own : entry.attributes ≡ Some m.own
     pub lines : m.lines ≡ lines_in shown dir
 
@@ -196,12 +196,12 @@ module _ (shown : HostTree) (whole : is_host_tree shown ≡ true) where
   has_manifest dir m is = by (find path_cmp dir shown) refl is
     where
       by : (o : Option HostEntry) → find path_cmp dir shown ≡ o
-          → ◌≡◌ {A = Option Manifest} (option_and_then (λ e. manifest_with (lines_in shown dir) e.node e.attributes) o)
+          → ◌≡◌ {A = Option Manifest} (option_and_then (λ e. manifest_with (lines_in shown dir) e.object e.attributes) o)
           (Some m)
           → HasManifest dir m
       by None there is = absurd (not_none m is)
       by (Some e) there is =
-          let parts = own_is (lines_in shown dir) e.node e.attributes m is in
+          let parts = own_is (lines_in shown dir) e.object e.attributes m is in
           record { entry = e; found = there; directory = parts.0; own = parts.1; lines = sym parts.2 }
 
   pub manifest_whole : (dir : Path) (m : Manifest) → manifest_of shown dir ≡ Some m → is_manifest m ≡ true
@@ -210,8 +210,8 @@ module _ (shown : HostTree) (whole : is_host_tree shown ≡ true) where
       let h = has_manifest dir m is in
       let whole = (entry_is dir h.entry h.found).0 in
       let told : are_attributes m.own ≡ true =
-      whole_told h.entry.node m.own
-      (ap (is_whole h.entry.node) (sym h.own) ∙ whole) in
+      whole_told h.entry.object m.own
+      (ap (is_whole h.entry.object) (sym h.own) ∙ whole) in
       let each : list_all is_line m.lines ≡ true =
       ap (list_all is_line) h.lines ∙ lines_whole dir shown entries_are in
       let up : ascend m.lines ≡ true =
@@ -234,32 +234,32 @@ module _ (shown : HostTree) (whole : is_host_tree shown ≡ true) where
 
   -- in a directory without a manifest what needs none stands
   pub needs_no : (dir : Path) → manifest_of shown dir ≡ None → (name : Name) (e : HostEntry)
-      → StandsIn shown dir name e → needs_none name e.node e.attributes ≡ true
+      → StandsIn shown dir name e → needs_none name e.object e.attributes ≡ true
   needs_no dir none name e s =
       let bare : s.above.attributes ≡ None =
-      own_told (lines_in shown dir) s.above.node s.above.attributes s.directory
-      (ap (option_and_then (λ x. manifest_with (lines_in shown dir) x.node x.attributes)) (sym s.found) ∙ none) in
+      own_told (lines_in shown dir) s.above.object s.above.attributes s.directory
+      (ap (option_and_then (λ x. manifest_with (lines_in shown dir) x.object x.attributes)) (sym s.found) ∙ none) in
       ap (λ (a : Option Attributes). may_stand a name e) (sym bare) ∙ s.may
 
   -- ---- what the sealed tree has
 
   -- what stands for an entry
-  pub own_stands : (q : Path) (e : HostEntry) → find path_cmp q shown ≡ Some e → sealed_at shown q ≡ node_of e.node
+  pub own_stands : (q : Path) (e : HostEntry) → find path_cmp q shown ≡ Some e → sealed_at shown q ≡ object_of e.object
   own_stands q e found = by (ending_of q)
     where
-      own : own_node (find path_cmp q shown) ≡ node_of e.node
-      own = ap own_node found
+      own : own_object (find path_cmp q shown) ≡ object_of e.object
+      own = ap own_object found
 
       in_dir : (dir : Path) (n : Name) → q ≡ dir ++ n ∷ [] → (k : Option Manifest) → manifest_of shown dir ≡ k
-          → sealed_in k n (find path_cmp q shown) ≡ node_of e.node
+          → sealed_in k n (find path_cmp q shown) ≡ object_of e.object
       in_dir dir n at None is = own
       in_dir dir n at (Some m) is =
-          ap (λ t. cond t (Some (File (printed m))) (own_node (find path_cmp q shown)))
+          ap (λ t. cond t (Some (File (printed m))) (own_object (find path_cmp q shown)))
           (place_free dir m is n e (stands dir n e (ap (λ (p : Path). find path_cmp p shown) (sym at) ∙ found)))
           ∙ own
 
       by : (q ≡ []) ⊎ ((dir : Path) × (name : Name) × (q ≡ dir ++ name ∷ []))
-          → sealed_at shown q ≡ node_of e.node
+          → sealed_at shown q ≡ object_of e.object
       by (inl none) =
           ap (λ (p : Path). sealed_in (manifest_over shown (parted p)) (last_name (parted p)) (find path_cmp q shown)) none
           ∙ own
@@ -279,33 +279,33 @@ module _ (shown : HostTree) (whole : is_host_tree shown ≡ true) where
   module _ (tree : Tree) (made : IsSealed shown tree) where
     -- no file of the host's is a manifest
     no_other : (dir : Path) → manifest_of shown dir ≡ None
-        → manifest_in_node (own_node (find path_cmp (dir ++ manifest_name ∷ []) shown)) ≡ None
+        → manifest_in_object (own_object (find path_cmp (dir ++ manifest_name ∷ []) shown)) ≡ None
     no_other dir none = by (find path_cmp (dir ++ manifest_name ∷ []) shown) refl
       where
         nothing : (o : Option Manifest) → not (is_some o) ≡ true → o ≡ None
         nothing None is = refl
         nothing (Some m) is = absurd (true≢false (sym is))
 
-        by_node : (node : HostNode) (a : Option Attributes) → needs_none manifest_name node a ≡ true
-            → manifest_in_node (node_of node) ≡ None
-        by_node host.Directory a is = refl
-        by_node (host.File bytes) a is = nothing (manifest_in bytes) (and_parts (is_none a) _ is).1
-        by_node (host.Link target) a is = refl
+        by_object : (object : HostObject) (a : Option Attributes) → needs_none manifest_name object a ≡ true
+            → manifest_in_object (object_of object) ≡ None
+        by_object host.Directory a is = refl
+        by_object (host.File bytes) a is = nothing (manifest_in bytes) (and_parts (is_none a) _ is).1
+        by_object (host.Link target) a is = refl
 
         by : (o : Option HostEntry) → find path_cmp (dir ++ manifest_name ∷ []) shown ≡ o
-            → manifest_in_node (own_node o) ≡ None
+            → manifest_in_object (own_object o) ≡ None
         by None there = refl
         by (Some e) there =
-            by_node e.node e.attributes (needs_no dir none manifest_name e (stands dir manifest_name e there))
+            by_object e.object e.attributes (needs_no dir none manifest_name e (stands dir manifest_name e there))
 
     -- the manifest of each directory is there
     pub manifest_there : (dir : Path) → manifest_at tree dir ≡ manifest_of shown dir
     manifest_there dir =
-        ap manifest_in_node (made.each (dir ++ manifest_name ∷ []) ∙ sealed_below dir manifest_name)
+        ap manifest_in_object (made.each (dir ++ manifest_name ∷ []) ∙ sealed_below dir manifest_name)
         ∙ by (manifest_of shown dir) refl
       where
         by : (k : Option Manifest) → manifest_of shown dir ≡ k
-            → manifest_in_node (sealed_in k manifest_name (find path_cmp (dir ++ manifest_name ∷ []) shown)) ≡ k
+            → manifest_in_object (sealed_in k manifest_name (find path_cmp (dir ++ manifest_name ∷ []) shown)) ≡ k
         by None is = no_other dir is
         by (Some m) is = read_again m (manifest_whole dir m is)
 
@@ -317,11 +317,11 @@ module _ (shown : HostTree) (whole : is_host_tree shown ≡ true) where
         (sealed_in (manifest_of shown dir) n (find path_cmp (dir ++ n ∷ []) shown))
     shown_below dir n =
         let own = manifest_there (dir ++ n ∷ []) in
-        let node = made.each (dir ++ n ∷ []) ∙ sealed_below dir n in
+        let object = made.each (dir ++ n ∷ []) ∙ sealed_below dir n in
         let above = manifest_there dir in
         ap (λ (o : Option (Path × Name)). shown_in (manifest_above tree o) (last_name o)
         (manifest_at tree (dir ++ n ∷ [])) (lookup tree (dir ++ n ∷ []))) (parted_ends dir n)
-        ∙ (λ i. shown_in (above i) n (own i) (node i))
+        ∙ (λ i. shown_in (above i) n (own i) (object i))
 
     -- the line of a name
     line_there : (dir : Path) (m : Manifest) → manifest_of shown dir ≡ Some m → (n : Name)
@@ -330,11 +330,11 @@ module _ (shown : HostTree) (whole : is_host_tree shown ≡ true) where
         ap (λ (lines : List Line). line_named lines n) (has_manifest dir m is).lines ∙ found_line shown dir n in_order
 
     -- an entry of a directory that has a manifest
-    told_shown : (dir : Path) (m : Manifest) (n : Name) (node : HostNode) (a : Option Attributes)
-        → line_in (Some m) n ≡ line_told n (record { node = node; attributes = a })
-        → same_name n manifest_name ≡ false → is_name n ≡ true → is_whole node a ≡ true
-        → shown_in (Some m) n (manifest_with (lines_in shown (dir ++ n ∷ [])) node a) (node_of node)
-        ≡ Some (record { node = node; attributes = a })
+    told_shown : (dir : Path) (m : Manifest) (n : Name) (object : HostObject) (a : Option Attributes)
+        → line_in (Some m) n ≡ line_told n (record { object = object; attributes = a })
+        → same_name n manifest_name ≡ false → is_name n ≡ true → is_whole object a ≡ true
+        → shown_in (Some m) n (manifest_with (lines_in shown (dir ++ n ∷ [])) object a) (object_of object)
+        ≡ Some (record { object = object; attributes = a })
     told_shown dir m n host.Directory a line other named whole =
         ap Some (directory_shown (lines_in shown (dir ++ n ∷ [])) host.Directory a refl)
     told_shown dir m n (host.File bytes) None line other named whole =
@@ -346,13 +346,13 @@ module _ (shown : HostTree) (whole : is_host_tree shown ≡ true) where
     told_shown dir m n (host.Link target) None line other named whole = absurd (true≢false (sym whole))
     told_shown dir m n (host.Link target) (Some a) line other named whole =
         ap (shown_link n) line
-        ∙ ap (λ t. cond t (Some (record { node = host.Link target; attributes = Some a })) None) named
+        ∙ ap (λ t. cond t (Some (record { object = host.Link target; attributes = Some a })) None) named
 
     -- and one of a directory that has none
-    bare_shown : (dir : Path) (n : Name) (node : HostNode) (a : Option Attributes)
-        → needs_none n node a ≡ true
-        → shown_in None n (manifest_with (lines_in shown (dir ++ n ∷ [])) node a) (node_of node)
-        ≡ Some (record { node = node; attributes = a })
+    bare_shown : (dir : Path) (n : Name) (object : HostObject) (a : Option Attributes)
+        → needs_none n object a ≡ true
+        → shown_in None n (manifest_with (lines_in shown (dir ++ n ∷ [])) object a) (object_of object)
+        ≡ Some (record { object = object; attributes = a })
     bare_shown dir n host.Directory a is =
         ap Some (directory_shown (lines_in shown (dir ++ n ∷ [])) host.Directory a refl)
     bare_shown dir n (host.File bytes) None is = refl
@@ -361,12 +361,12 @@ module _ (shown : HostTree) (whole : is_host_tree shown ≡ true) where
 
     in_dir : (dir : Path) (n : Name) (o : Option HostEntry) → find path_cmp (dir ++ n ∷ []) shown ≡ o
         → (k : Option Manifest) → manifest_of shown dir ≡ k
-        → shown_in k n (option_and_then (λ e. manifest_with (lines_in shown (dir ++ n ∷ [])) e.node e.attributes) o)
+        → shown_in k n (option_and_then (λ e. manifest_with (lines_in shown (dir ++ n ∷ [])) e.object e.attributes) o)
         (sealed_in k n o) ≡ o
     in_dir dir n None there None is =
         elim (is_name n) as (λ t. ◌≡◌ {A = Option HostEntry} (cond t None None) None) [ true ↦ refl | false ↦ refl ]
     in_dir dir n (Some e) there None is =
-        bare_shown dir n e.node e.attributes (needs_no dir is n e (stands dir n e there))
+        bare_shown dir n e.object e.attributes (needs_no dir is n e (stands dir n e there))
     in_dir dir n None there (Some m) is =
         elim (same_name n manifest_name) as (λ t. same_name n manifest_name ≡ t
         → shown_in (Some m) n None (cond t (Some (File (printed m))) None) ≡ None) [
@@ -381,21 +381,21 @@ module _ (shown : HostTree) (whole : is_host_tree shown ≡ true) where
     in_dir dir n (Some e) there (Some m) is =
         let s = stands dir n e there in
         let free = place_free dir m is n e s in
-        ap (λ t. shown_in (Some m) n (manifest_with (lines_in shown (dir ++ n ∷ [])) e.node e.attributes)
-        (cond t (Some (File (printed m))) (node_of e.node))) free
-        ∙ told_shown dir m n e.node e.attributes
+        ap (λ t. shown_in (Some m) n (manifest_with (lines_in shown (dir ++ n ∷ [])) e.object e.attributes)
+        (cond t (Some (File (printed m))) (object_of e.object))) free
+        ∙ told_shown dir m n e.object e.attributes
         (line_there dir m is n ∙ ap (option_and_then (line_told n)) there) free s.named
         (entry_is (dir ++ n ∷ []) e there).0
 
     at_root : (o : Option HostEntry) → find path_cmp [] shown ≡ o
-        → shown_in None [] (manifest_of shown []) (own_node o) ≡ o
+        → shown_in None [] (manifest_of shown []) (own_object o) ≡ o
     at_root None there = absurd (true≢false (sym root_there ∙ ap is_some there))
     at_root (Some e) there =
         let dir = root_is e there in
-        ap (shown_in None [] (manifest_of shown [])) (directory_node e.node dir)
+        ap (shown_in None [] (manifest_of shown [])) (directory_object e.object dir)
         ∙ ap (λ (o : Option HostEntry). Some (shown_directory
-        (option_and_then (λ x. manifest_with (lines_in shown []) x.node x.attributes) o))) there
-        ∙ ap Some (directory_shown (lines_in shown []) e.node e.attributes dir)
+        (option_and_then (λ x. manifest_with (lines_in shown []) x.object x.attributes) o))) there
+        ∙ ap Some (directory_shown (lines_in shown []) e.object e.attributes dir)
 
     pub shown_is : (q : Path) → shown_at tree q ≡ find path_cmp q shown
     shown_is q = by (ending_of q)
@@ -404,9 +404,9 @@ module _ (shown : HostTree) (whole : is_host_tree shown ≡ true) where
             → shown_at tree q ≡ find path_cmp q shown
         by (inl none) =
             let own = manifest_there [] in
-            let node = made.each [] in
+            let object = made.each [] in
             ap (shown_at tree) none
-            ∙ (λ i. shown_in None [] (own i) (node i))
+            ∙ (λ i. shown_in None [] (own i) (object i))
             ∙ at_root (find path_cmp [] shown) refl
             ∙ ap (λ (p : Path). find path_cmp p shown) (sym none)
         by (inr some) =
@@ -422,25 +422,25 @@ module _ (shown : HostTree) (whole : is_host_tree shown ≡ true) where
 
     fine_line : (dir : Path) (m : Manifest) → manifest_of shown dir ≡ Some m → (n : Name) (e : HostEntry)
         → find path_cmp (dir ++ n ∷ []) shown ≡ Some e
-        → flat_map (refused_line tree dir) (line_with n (kind_of e.node) e.attributes) ≡ []
+        → flat_map (refused_line tree dir) (line_with n (kind_of e.object) e.attributes) ≡ []
     fine_line dir m is n e there =
         let s = stands dir n e there in
-        by e.node e.attributes s.named
+        by e.object e.attributes s.named
         (made.each (dir ++ n ∷ []) ∙ own_stands (dir ++ n ∷ []) e there)
       where
-        by : (node : HostNode) (a : Option Attributes) → is_name n ≡ true
-            → lookup tree (dir ++ n ∷ []) ≡ node_of node
-            → flat_map (refused_line tree dir) (line_with n (kind_of node) a) ≡ []
+        by : (object : HostObject) (a : Option Attributes) → is_name n ≡ true
+            → lookup tree (dir ++ n ∷ []) ≡ object_of object
+            → flat_map (refused_line tree dir) (line_with n (kind_of object) a) ≡ []
         by host.Directory a named has = refl
         by (host.File bytes) None named has = refl
         by (host.Link target) None named has = refl
         by (host.File bytes) (Some a) named has =
             let l : Line = record { name = n; kind = kind.File; attributes = a } in
-            ap (λ (o : Option Node). one_if (dir ++ n ∷ []) (fault_of l o) ++ []) has
+            ap (λ (o : Option Object). one_if (dir ++ n ∷ []) (fault_of l o) ++ []) has
             ∙ ap (λ t. one_if (dir ++ n ∷ []) (cond t None (Some BadName)) ++ []) named
         by (host.Link target) (Some a) named has =
             let l : Line = record { name = n; kind = kind.Link target; attributes = a } in
-            ap (λ (o : Option Node). one_if (dir ++ n ∷ []) (fault_of l o) ++ []) has
+            ap (λ (o : Option Object). one_if (dir ++ n ∷ []) (fault_of l o) ++ []) has
             ∙ ap (λ t. one_if (dir ++ n ∷ []) (cond t None (Some BadName)) ++ []) named
 
     joined_fine : (dir : Path) (a b : List Line) → flat_map (refused_line tree dir) a ≡ []
@@ -483,7 +483,7 @@ module _ (shown : HostTree) (whole : is_host_tree shown ≡ true) where
         ap (λ (x : Refused). x ++ flat_map (λ f. refused_in tree f.0 (manifest_for tree f.0 f.1)) es) here
         ∙ none_refused es
       where
-        by : (node : Node) → refused_in tree e.0 (manifest_for tree e.0 node) ≡ []
+        by : (object : Object) → refused_in tree e.0 (manifest_for tree e.0 object) ≡ []
         by Dir = ap (refused_in tree e.0) (manifest_there e.0) ∙ fine_in e.0 (manifest_of shown e.0) refl
         by (File bytes) = refl
 

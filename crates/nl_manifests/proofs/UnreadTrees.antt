@@ -5,8 +5,8 @@ use Rattle.std.specs.Option.{option_map}
 use Rattle.std.specs.Ordering.{is_lt}
 use Rattle.std.specs.FinMap.{find, is_sorted}
 use Rattle.std.specs.FinMap.Entries.{below_all}
-use Rattle.nl_types.specs.declared.reply.Node.{Node}
-use Rattle.nl_types.specs.declared.reply.Node.TheVariants.{Dir, File}
+use Rattle.nl_types.specs.declared.reply.Object.{Object}
+use Rattle.nl_types.specs.declared.reply.Object.TheVariants.{Dir, File}
 use Rattle.nl_types.specs.Plain.Paths.{Name, Path, is_name, path_cmp, same_name, same_path}
 use Rattle.nl_types.specs.Plain.Trees.{Tree, lookup}
 use Rattle.nl_types.specs.Facts.Lookups.{same_name-itself}
@@ -16,11 +16,11 @@ use Rattle.nl_manifests.specs.declared.manifest.LineKind.TheVariants as kind
 use Rattle.nl_manifests.specs.declared.manifest.Line.{Line}
 use Rattle.nl_manifests.specs.declared.manifest.Manifest.{Manifest}
 use Rattle.nl_manifests.specs.declared.attributes.Attributes.{Attributes}
-use Rattle.nl_manifests.specs.declared.host_tree.HostNode.{HostNode}
-use Rattle.nl_manifests.specs.declared.host_tree.HostNode.TheVariants as host
+use Rattle.nl_manifests.specs.declared.host_tree.HostObject.{HostObject}
+use Rattle.nl_manifests.specs.declared.host_tree.HostObject.TheVariants as host
 use Rattle.nl_manifests.specs.declared.host_tree.HostEntry.{HostEntry}
-use Rattle.nl_manifests.specs.HostTrees.{HostTree, Shows, last_name, line_in, manifest_above, manifest_at, manifest_in_node, manifest_name, parted, shown_at, shown_file, shown_in, shown_link, told_of_link}
-use Rattle.nl_manifests.specs.Unread.{unread, unread_at, unread_node}
+use Rattle.nl_manifests.specs.HostTrees.{HostTree, Shows, last_name, line_in, manifest_above, manifest_at, manifest_in_object, manifest_name, parted, shown_at, shown_file, shown_in, shown_link, told_of_link}
+use Rattle.nl_manifests.specs.Unread.{unread, unread_at, unread_object}
 use Rattle.nl_manifests.proofs.Shown.{parted_ends}
 
 -- ---- entries that are made others at their paths
@@ -51,13 +51,13 @@ module _ {X : Type 0} (f : Path → X → X) where
 
 -- ---- what is shown
 
-abbrev pub bare_node : Name → HostNode → HostNode
-bare_node name host.Directory = host.Directory
-bare_node name (host.File bytes) = cond (same_name name manifest_name) (host.File bytes) (host.File [])
-bare_node name (host.Link target) = host.Link target
+abbrev pub bare_object : Name → HostObject → HostObject
+bare_object name host.Directory = host.Directory
+bare_object name (host.File bytes) = cond (same_name name manifest_name) (host.File bytes) (host.File [])
+bare_object name (host.Link target) = host.Link target
 
 abbrev pub bare_entry : Name → HostEntry → HostEntry
-bare_entry name e = record { node = bare_node name e.node; attributes = e.attributes }
+bare_entry name e = record { object = bare_object name e.object; attributes = e.attributes }
 
 abbrev pub bare : Path → HostEntry → HostEntry
 bare path e = bare_entry (last_name (parted path)) e
@@ -79,11 +79,11 @@ file_bare : (name : Name) (bytes given : List ℕ) (line : Option Line) (hidden 
     (option_map (bare_entry name) (cond hidden None (Some (shown_file bytes line))))
 file_bare name bytes given line true is = refl
 file_bare name bytes given line false is =
-    ap (λ (n : HostNode). Some (record { node = n; attributes = (shown_file bytes line).attributes }))
+    ap (λ (n : HostObject). Some (record { object = n; attributes = (shown_file bytes line).attributes }))
     (sym is)
 
-in_bare : (above : Option Manifest) (name : Name) (own : Option Manifest) (o : Option Node)
-    → shown_in above name own (option_map (unread_node name) o)
+in_bare : (above : Option Manifest) (name : Name) (own : Option Manifest) (o : Option Object)
+    → shown_in above name own (option_map (unread_object name) o)
     ≡ option_map (bare_entry name) (shown_in above name own o)
 in_bare above name own None = by (is_name name)
   where
@@ -111,17 +111,17 @@ module _ (tree : Tree) where
   -- manifests are read
   manifest_same : (dir : Path) → manifest_at (unread tree) dir ≡ manifest_at tree dir
   manifest_same dir =
-      ap manifest_in_node (found_made unread_at tree (dir ++ manifest_name ∷ []))
+      ap manifest_in_object (found_made unread_at tree (dir ++ manifest_name ∷ []))
       ∙ by (lookup tree (dir ++ manifest_name ∷ []))
     where
-      by : (o : Option Node)
-          → manifest_in_node (option_map (unread_at (dir ++ manifest_name ∷ [])) o) ≡ manifest_in_node o
+      by : (o : Option Object)
+          → manifest_in_object (option_map (unread_at (dir ++ manifest_name ∷ [])) o) ≡ manifest_in_object o
       by None = refl
       by (Some Dir) = refl
       by (Some (File bytes)) =
-          ap (λ (p : Option (Path × Name)). manifest_in_node (Some (unread_node (last_name p) (File bytes))))
+          ap (λ (p : Option (Path × Name)). manifest_in_object (Some (unread_object (last_name p) (File bytes))))
           (parted_ends dir manifest_name)
-          ∙ ap (λ t. manifest_in_node (Some (cond t (File bytes) (File [])))) (same_name-itself manifest_name)
+          ∙ ap (λ t. manifest_in_object (Some (cond t (File bytes) (File [])))) (same_name-itself manifest_name)
 
   above_same : (p : Option (Path × Name)) → manifest_above (unread tree) p ≡ manifest_above tree p
   above_same None = refl

@@ -5,14 +5,14 @@ use Rattle.std.specs.FinMap.{find, is_sorted}
 use Rattle.std.specs.FinMap.Entries.{by_order}
 use Rattle.nl_types.specs.Plain.Paths.{Path, path_cmp}
 use Rattle.nl_folders.specs.declared.differences.Difference.{Difference}
-use Rattle.nl_folders.specs.declared.differences.Difference.TheVariants as nodes
+use Rattle.nl_folders.specs.declared.differences.Difference.TheVariants as objects
 use Rattle.nl_folders.specs.Differences.{Differences}
 use Rattle.nl_manifests.specs.declared.attributes.Attributes.{Attributes}
 use Rattle.nl_manifests.specs.declared.comparing.HostDifference.{HostDifference}
 use Rattle.nl_manifests.specs.declared.comparing.HostDifference.TheVariants.{Added, Changed, Removed, Replaced, Rewritten}
 use Rattle.nl_manifests.specs.declared.host_tree.HostEntry.{HostEntry}
-use Rattle.nl_manifests.specs.declared.host_tree.HostNode.{HostNode}
-use Rattle.nl_manifests.specs.declared.host_tree.HostNode.TheVariants.{Directory, File, Link}
+use Rattle.nl_manifests.specs.declared.host_tree.HostObject.{HostObject}
+use Rattle.nl_manifests.specs.declared.host_tree.HostObject.TheVariants.{Directory, File, Link}
 use Rattle.nl_manifests.specs.HostTrees.{HostTree}
 
 -- ---- at a path
@@ -27,17 +27,17 @@ are_alike (Some one) (Some other) =
 abbrev pub unless : Bool → HostDifference → Option HostDifference
 unless same difference = if same then None else Some difference
 
--- what differs between two nodes; `rewrites` says whether the bytes of a file do
-abbrev pub node_difference : (rewrites : Bool) → HostNode → HostNode → Option HostDifference
-node_difference rewrites Directory Directory = None
-node_difference rewrites Directory (File new) = Some Replaced
-node_difference rewrites Directory (Link new) = Some Replaced
-node_difference rewrites (File old) Directory = Some Replaced
-node_difference rewrites (File old) (File new) = unless (not rewrites) Rewritten
-node_difference rewrites (File old) (Link new) = Some Replaced
-node_difference rewrites (Link old) Directory = Some Replaced
-node_difference rewrites (Link old) (File new) = Some Replaced
-node_difference rewrites (Link old) (Link new) = unless (bytes_eq old new) Changed
+-- what differs between two objects; `rewrites` says whether the bytes of a file do
+abbrev pub object_difference : (rewrites : Bool) → HostObject → HostObject → Option HostDifference
+object_difference rewrites Directory Directory = None
+object_difference rewrites Directory (File new) = Some Replaced
+object_difference rewrites Directory (Link new) = Some Replaced
+object_difference rewrites (File old) Directory = Some Replaced
+object_difference rewrites (File old) (File new) = unless (not rewrites) Rewritten
+object_difference rewrites (File old) (Link new) = Some Replaced
+object_difference rewrites (Link old) Directory = Some Replaced
+object_difference rewrites (Link old) (File new) = Some Replaced
+object_difference rewrites (Link old) (Link new) = unless (bytes_eq old new) Changed
 
 -- and else their attributes may
 abbrev pub or_changed : Option HostDifference → (alike : Bool) → Option HostDifference
@@ -46,10 +46,10 @@ or_changed None alike = unless alike Changed
 
 abbrev pub entry_difference : (rewrites : Bool) → HostEntry → HostEntry → Option HostDifference
 entry_difference rewrites old new =
-    or_changed (node_difference rewrites old.node new.node) (are_alike old.attributes new.attributes)
+    or_changed (object_difference rewrites old.object new.object) (are_alike old.attributes new.attributes)
 
 -- whether a file has other bytes than one had
-abbrev pub have_other_bytes : HostNode → HostNode → Bool
+abbrev pub have_other_bytes : HostObject → HostObject → Bool
 have_other_bytes (File old) (File new) = not (bytes_eq old new)
 have_other_bytes old new = false
 
@@ -58,7 +58,7 @@ abbrev pub host_difference_of : Option HostEntry → Option HostEntry → Option
 host_difference_of None None = None
 host_difference_of None (Some new) = Some Added
 host_difference_of (Some old) None = Some Removed
-host_difference_of (Some old) (Some new) = entry_difference (have_other_bytes old.node new.node) old new
+host_difference_of (Some old) (Some new) = entry_difference (have_other_bytes old.object new.object) old new
 
 -- ---- all that differs, in the order of the paths
 
@@ -75,14 +75,14 @@ all_added (f ∷ new) = (f.0, Added) ∷ all_added new
 
 -- which files are known to have other bytes
 abbrev pub Rewrites : Type 0
-Rewrites = Path → HostNode → HostNode → Bool
+Rewrites = Path → HostObject → HostObject → Bool
 
 -- an old entry beside new ones, where `rest` tells of the old ones behind it and new ones
 abbrev pub beside : Rewrites → Path × HostEntry → (HostTree → HostDifferences) → HostTree → HostDifferences
 beside rewrites e rest [] = (e.0, Removed) ∷ rest []
 beside rewrites e rest (f ∷ new) = by_order (path_cmp e.0 f.0)
     ((e.0, Removed) ∷ rest (f ∷ new))
-    (told e.0 (entry_difference (rewrites e.0 e.1.node f.1.node) e.1 f.1) ++ rest new)
+    (told e.0 (entry_difference (rewrites e.0 e.1.object f.1.object) e.1 f.1) ++ rest new)
     ((f.0, Added) ∷ beside rewrites e rest new)
 
 abbrev pub differences_by : Rewrites → HostTree → HostTree → HostDifferences
@@ -103,11 +103,11 @@ HostDifferencesAreExact =
 
 abbrev pub is_of_bytes : Option Difference → Bool
 is_of_bytes None = false
-is_of_bytes (Some nodes.Added) = false
-is_of_bytes (Some nodes.Removed) = false
-is_of_bytes (Some nodes.Rewritten) = true
-is_of_bytes (Some nodes.Replaced) = false
+is_of_bytes (Some objects.Added) = false
+is_of_bytes (Some objects.Removed) = false
+is_of_bytes (Some objects.Rewritten) = true
+is_of_bytes (Some objects.Replaced) = false
 
 -- a file has other bytes where these differences tell so
 abbrev pub told_by : Differences → Rewrites
-told_by of_nodes path one other = is_of_bytes (find path_cmp path of_nodes)
+told_by of_objects path one other = is_of_bytes (find path_cmp path of_objects)

@@ -3,8 +3,8 @@ use Rattle.std.specs.Prelude.{◌≡◌, ℕ, ◌&&◌, if◌then◌else◌, IsT
 use Rattle.std.specs.FinMap.{find, is_sorted}
 use Rattle.std.specs.List.{flat_map}
 use Rattle.std.specs.Option.{option_map}
-use Rattle.nl_types.specs.declared.reply.Node.{Node}
-use Rattle.nl_types.specs.declared.reply.Node.TheVariants.{Dir, File}
+use Rattle.nl_types.specs.declared.reply.Object.{Object}
+use Rattle.nl_types.specs.declared.reply.Object.TheVariants.{Dir, File}
 use Rattle.nl_types.specs.Plain.Paths.{Name, Path, name_cmp, path_cmp, same_name, is_name}
 use Rattle.nl_types.specs.Plain.Trees.{Tree, lookup}
 use Rattle.nl_manifests.specs.declared.attributes.Attributes.{Attributes}
@@ -12,7 +12,7 @@ use Rattle.nl_manifests.specs.declared.manifest.LineKind.{LineKind}
 use Rattle.nl_manifests.specs.declared.manifest.LineKind.TheVariants as kind
 use Rattle.nl_manifests.specs.declared.manifest.Line.{Line}
 use Rattle.nl_manifests.specs.declared.manifest.Manifest.{Manifest}
-use Rattle.nl_manifests.specs.declared.host_tree.HostNode.TheVariants as host
+use Rattle.nl_manifests.specs.declared.host_tree.HostObject.TheVariants as host
 use Rattle.nl_manifests.specs.declared.host_tree.HostEntry.{HostEntry}
 use Rattle.nl_manifests.specs.declared.host_tree.LineFault.{LineFault}
 use Rattle.nl_manifests.specs.declared.host_tree.LineFault.TheVariants.{BadName, NoFile, Taken}
@@ -27,17 +27,17 @@ manifest_name = codes ".nlkeep"
 
 -- ---- what a tree has manifests of
 
-abbrev pub manifest_in_node : Option Node → Option Manifest
-manifest_in_node None = None
-manifest_in_node (Some Dir) = None
-manifest_in_node (Some (File bytes)) = manifest_in bytes
+abbrev pub manifest_in_object : Option Object → Option Manifest
+manifest_in_object None = None
+manifest_in_object (Some Dir) = None
+manifest_in_object (Some (File bytes)) = manifest_in bytes
 
 -- the manifest of a directory
 abbrev pub manifest_at : Tree → Path → Option Manifest
-manifest_at tree dir = manifest_in_node (lookup tree (dir ++ manifest_name ∷ []))
+manifest_at tree dir = manifest_in_object (lookup tree (dir ++ manifest_name ∷ []))
 
 -- the same of what stands at a path: a file has none
-abbrev pub manifest_for : Tree → Path → Node → Option Manifest
+abbrev pub manifest_for : Tree → Path → Object → Option Manifest
 manifest_for tree path Dir = manifest_at tree path
 manifest_for tree path (File bytes) = None
 
@@ -59,7 +59,7 @@ line_in (Some m) name = line_named m.lines name
 
 -- a directory has the attributes that its own manifest tells
 abbrev pub shown_directory : Option Manifest → HostEntry
-shown_directory own = record { node = host.Directory; attributes = option_map (λ m. m.own) own }
+shown_directory own = record { object = host.Directory; attributes = option_map (λ m. m.own) own }
 
 -- a file has those that a line of a file tells
 abbrev pub told_of_file : LineKind → Attributes → Option Attributes
@@ -68,7 +68,7 @@ told_of_file (kind.Link target) attributes = None
 
 abbrev pub shown_file : List ℕ → Option Line → HostEntry
 shown_file bytes line = record {
-  node = host.File bytes;
+  object = host.File bytes;
   attributes = option_and_then (λ l. told_of_file l.kind l.attributes) line;
 }
 
@@ -76,15 +76,15 @@ shown_file bytes line = record {
 abbrev pub told_of_link : LineKind → Attributes → Option HostEntry
 told_of_link kind.File attributes = None
 told_of_link (kind.Link target) attributes =
-    Some (record { node = host.Link target; attributes = Some attributes })
+    Some (record { object = host.Link target; attributes = Some attributes })
 
 abbrev pub shown_link : Name → Option Line → Option HostEntry
 shown_link name line = if is_name name then option_and_then (λ l. told_of_link l.kind l.attributes) line
     else None
 
--- What a node shows under a name: the manifest of its directory is `above`, and `own` that of itself, if it is
+-- What an object shows under a name: the manifest of its directory is `above`, and `own` that of itself, if it is
 -- a directory. The file of a manifest is not shown.
-abbrev pub shown_in : (above : Option Manifest) → Name → (own : Option Manifest) → Option Node → Option
+abbrev pub shown_in : (above : Option Manifest) → Name → (own : Option Manifest) → Option Object → Option
     HostEntry
 shown_in above name own (Some Dir) = Some (shown_directory own)
 shown_in above name own (Some (File bytes)) =
@@ -109,15 +109,15 @@ shown_at tree path =
 -- ---- lines that show nothing
 
 -- a link stands where nothing else does, and the file of a line is there
-abbrev pub fault_at : LineKind → Option Node → Option LineFault
+abbrev pub fault_at : LineKind → Option Object → Option LineFault
 fault_at kind.File None = Some NoFile
 fault_at kind.File (Some Dir) = Some NoFile
 fault_at kind.File (Some (File bytes)) = None
 fault_at (kind.Link target) None = None
-fault_at (kind.Link target) (Some node) = Some Taken
+fault_at (kind.Link target) (Some object) = Some Taken
 
-abbrev pub fault_of : Line → Option Node → Option LineFault
-fault_of line node = if is_name line.name then fault_at line.kind node else Some BadName
+abbrev pub fault_of : Line → Option Object → Option LineFault
+fault_of line object = if is_name line.name then fault_at line.kind object else Some BadName
 
 abbrev pub Refused : Type 0
 Refused = List (Path × LineFault)

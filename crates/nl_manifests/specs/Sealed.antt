@@ -2,8 +2,8 @@
 use Rattle.std.specs.Prelude.{◌≡◌, ◌+◌, Bool, true, false, ◌&&◌, not, if◌then◌else◌, nat_le, IsTrue, List, [], ◌∷◌, length, is_none, is_some, Option, Some, None, option_and_then}
 use Rattle.std.specs.FinMap.{find, is_sorted}
 use Rattle.std.specs.List.{flat_map, list_all}
-use Rattle.nl_types.specs.declared.reply.Node.{Node}
-use Rattle.nl_types.specs.declared.reply.Node.TheVariants.{Dir, File}
+use Rattle.nl_types.specs.declared.reply.Object.{Object}
+use Rattle.nl_types.specs.declared.reply.Object.TheVariants.{Dir, File}
 use Rattle.nl_types.specs.Plain.Limits.{file_limit, path_limit}
 use Rattle.nl_types.specs.Plain.Paths.{Name, Path, is_name, path_cmp, same_name}
 use Rattle.nl_types.specs.Plain.Trees.{Tree, lookup, name_below}
@@ -12,8 +12,8 @@ use Rattle.nl_manifests.specs.declared.manifest.LineKind.{LineKind}
 use Rattle.nl_manifests.specs.declared.manifest.LineKind.TheVariants as kind
 use Rattle.nl_manifests.specs.declared.manifest.Line.{Line}
 use Rattle.nl_manifests.specs.declared.manifest.Manifest.{Manifest}
-use Rattle.nl_manifests.specs.declared.host_tree.HostNode.{HostNode}
-use Rattle.nl_manifests.specs.declared.host_tree.HostNode.TheVariants as host
+use Rattle.nl_manifests.specs.declared.host_tree.HostObject.{HostObject}
+use Rattle.nl_manifests.specs.declared.host_tree.HostObject.TheVariants as host
 use Rattle.nl_manifests.specs.declared.host_tree.HostEntry.{HostEntry}
 use Rattle.nl_manifests.specs.declared.sealing.SealError.{SealError}
 use Rattle.nl_manifests.specs.declared.sealing.SealError.TheVariants.{Memory, TooBig, Unshown}
@@ -24,10 +24,10 @@ use Rattle.nl_manifests.specs.HostTrees.{HostTree, Shows, last_name, manifest_na
 -- ---- which are shown
 
 -- Attributes that can be told, where there are any; a link has some, as a manifest alone tells of it.
-abbrev pub is_whole : HostNode → Option Attributes → Bool
-is_whole node (Some a) = has_target node && are_attributes a
+abbrev pub is_whole : HostObject → Option Attributes → Bool
+is_whole object (Some a) = has_target object && are_attributes a
   where
-    has_target : HostNode → Bool
+    has_target : HostObject → Bool
     has_target host.Directory = true
     has_target (host.File bytes) = true
     has_target (host.Link target) = is_text target
@@ -37,7 +37,7 @@ is_whole (host.Link target) None = false
 
 -- what may stand in a directory without attributes, which has no manifest: no file is one, and none has
 -- attributes
-abbrev pub needs_none : Name → HostNode → Option Attributes → Bool
+abbrev pub needs_none : Name → HostObject → Option Attributes → Bool
 needs_none name host.Directory attributes = true
 needs_none name (host.File bytes) attributes =
     is_none attributes && not (same_name name manifest_name && is_some (manifest_in bytes))
@@ -45,10 +45,10 @@ needs_none name (host.Link target) attributes = false
 
 -- in a directory with attributes anything may, but in the place of the manifest
 abbrev pub may_stand : (above : Option Attributes) → Name → HostEntry → Bool
-may_stand None name e = needs_none name e.node e.attributes
+may_stand None name e = needs_none name e.object e.attributes
 may_stand (Some own) name e = not (same_name name manifest_name)
 
-abbrev pub is_directory : HostNode → Bool
+abbrev pub is_directory : HostObject → Bool
 is_directory host.Directory = true
 is_directory (host.File bytes) = false
 is_directory (host.Link target) = false
@@ -57,15 +57,15 @@ is_directory (host.Link target) = false
 abbrev pub stands_below : (above : Option HostEntry) → Name → HostEntry → Bool
 stands_below None name e = false
 stands_below (Some d) name e =
-    is_directory d.node && (is_name name && is_text name && may_stand d.attributes name e)
+    is_directory d.object && (is_name name && is_text name && may_stand d.attributes name e)
 
 -- the root is a directory, and all else stands in one
 abbrev pub is_placed : HostTree → Option (Path × Name) → HostEntry → Bool
-is_placed tree None e = is_directory e.node
+is_placed tree None e = is_directory e.object
 is_placed tree (Some p) e = stands_below (find path_cmp p.0 tree) p.1 e
 
 abbrev pub is_host_entry : HostTree → Path × HostEntry → Bool
-is_host_entry tree e = is_whole e.1.node e.1.attributes && is_placed tree (parted e.0) e.1
+is_host_entry tree e = is_whole e.1.object e.1.attributes && is_placed tree (parted e.0) e.1
 
 -- a tree of the host that a tree of a volume shows, if it is within the limits
 abbrev pub is_host_tree : HostTree → Bool
@@ -75,7 +75,7 @@ is_host_tree tree =
 -- ---- manifests
 
 -- a directory has no line
-abbrev pub kind_of : HostNode → Option LineKind
+abbrev pub kind_of : HostObject → Option LineKind
 kind_of host.Directory = None
 kind_of (host.File bytes) = Some kind.File
 kind_of (host.Link target) = Some (kind.Link target)
@@ -88,12 +88,12 @@ line_with name (Some k) (Some a) = record { name = name; kind = k; attributes = 
 -- the line of a file or a link that has attributes, where it stands in the directory
 abbrev pub line_under : Option Name → HostEntry → List Line
 line_under None e = []
-line_under (Some name) e = line_with name (kind_of e.node) e.attributes
+line_under (Some name) e = line_with name (kind_of e.object) e.attributes
 
 abbrev pub lines_in : HostTree → Path → List Line
 lines_in tree dir = flat_map (λ e. line_under (name_below dir e.0) e.1) tree
 
-abbrev pub manifest_with : List Line → HostNode → Option Attributes → Option Manifest
+abbrev pub manifest_with : List Line → HostObject → Option Attributes → Option Manifest
 manifest_with lines host.Directory None = None
 manifest_with lines host.Directory (Some own) = Some (record { own = own; lines = lines })
 manifest_with lines (host.File bytes) attributes = None
@@ -102,29 +102,29 @@ manifest_with lines (host.Link target) attributes = None
 -- a directory that has attributes has a manifest
 abbrev pub manifest_of : HostTree → Path → Option Manifest
 manifest_of tree dir =
-    option_and_then (λ e. manifest_with (lines_in tree dir) e.node e.attributes) (find path_cmp dir tree)
+    option_and_then (λ e. manifest_with (lines_in tree dir) e.object e.attributes) (find path_cmp dir tree)
 
 -- ---- the tree that shows it
 
--- a link has no node of its own
-abbrev pub node_of : HostNode → Option Node
-node_of host.Directory = Some Dir
-node_of (host.File bytes) = Some (File bytes)
-node_of (host.Link target) = None
+-- a link has no object of its own
+abbrev pub object_of : HostObject → Option Object
+object_of host.Directory = Some Dir
+object_of (host.File bytes) = Some (File bytes)
+object_of (host.Link target) = None
 
-abbrev pub own_node : Option HostEntry → Option Node
-own_node e = option_and_then (λ x. node_of x.node) e
+abbrev pub own_object : Option HostEntry → Option Object
+own_object e = option_and_then (λ x. object_of x.object) e
 
 -- what is under a name in a directory that has a manifest or none
-abbrev pub sealed_in : (above : Option Manifest) → Name → Option HostEntry → Option Node
-sealed_in None name e = own_node e
-sealed_in (Some m) name e = if same_name name manifest_name then Some (File (printed m)) else own_node e
+abbrev pub sealed_in : (above : Option Manifest) → Name → Option HostEntry → Option Object
+sealed_in None name e = own_object e
+sealed_in (Some m) name e = if same_name name manifest_name then Some (File (printed m)) else own_object e
 
 abbrev pub manifest_over : HostTree → Option (Path × Name) → Option Manifest
 manifest_over tree None = None
 manifest_over tree (Some p) = manifest_of tree p.0
 
-abbrev pub sealed_at : HostTree → Path → Option Node
+abbrev pub sealed_at : HostTree → Path → Option Object
 sealed_at tree path =
     let p = parted path in sealed_in (manifest_over tree p) (last_name p) (find path_cmp path tree)
 
@@ -141,7 +141,7 @@ SealedTreesOpen =
 
 -- ---- limits
 
-abbrev pub is_small : Node → Bool
+abbrev pub is_small : Object → Bool
 is_small Dir = true
 is_small (File bytes) = nat_le (length bytes) file_limit
 

@@ -3,11 +3,11 @@ ghost use Rattle.std.specs.Prelude.{◌≡◌, ◌++◌, [], ◌∷◌, ◌&&◌
 ghost use Rattle.std.specs.FinMap.{find};
 ghost use Rattle.std.specs.Option.{option_copied};
 ghost use Rattle.nl_types.specs.Plain.Paths.{path_cmp};
-ghost use Rattle.nl_manifests.specs.HostDifferences.{are_alike, differences_by, entry_difference, is_of_bytes, node_difference, or_changed, told, told_by, unless};
+ghost use Rattle.nl_manifests.specs.HostDifferences.{are_alike, differences_by, entry_difference, is_of_bytes, object_difference, or_changed, told, told_by, unless};
 ghost use Rattle.nl_manifests.specs.Private.Comparing.{TellsFirst, TellsNext};
 
 use crate::attributes::Attributes;
-use crate::host_tree::{HostEntry, HostNode};
+use crate::host_tree::{HostEntry, HostObject};
 use crate::looking::Entries;
 use nl_folders::{Difference, Name, Path, compare, copied};
 use nl_types::Items;
@@ -48,22 +48,22 @@ fn unless(is_same: bool, difference: HostDifference) -> Option<HostDifference>
     if is_same { None } else { Some(difference) }
 }
 
-/// What differs between two nodes. Of files it is known whether their bytes do.
-fn node_difference(rewrites: bool, old: &HostNode, new: &HostNode) -> Option<HostDifference>
-    ensures { result ≡ node_difference rewrites old.now new.now }
+/// What differs between two objects. Of files it is known whether their bytes do.
+fn object_difference(rewrites: bool, old: &HostObject, new: &HostObject) -> Option<HostDifference>
+    ensures { result ≡ object_difference rewrites old.now new.now }
 {
     match (old, new) {
-        (HostNode::Directory, HostNode::Directory) => None,
-        (HostNode::File(_), HostNode::File(_)) => unless(!rewrites, HostDifference::Rewritten),
-        (HostNode::Link(old), HostNode::Link(new)) => {
+        (HostObject::Directory, HostObject::Directory) => None,
+        (HostObject::File(_), HostObject::File(_)) => unless(!rewrites, HostDifference::Rewritten),
+        (HostObject::Link(old), HostObject::Link(new)) => {
             unless(old.as_slice() == new.as_slice(), HostDifference::Changed)
         }
-        (HostNode::Directory, HostNode::File(_)) => Some(HostDifference::Replaced),
-        (HostNode::Directory, HostNode::Link(_)) => Some(HostDifference::Replaced),
-        (HostNode::File(_), HostNode::Directory) => Some(HostDifference::Replaced),
-        (HostNode::File(_), HostNode::Link(_)) => Some(HostDifference::Replaced),
-        (HostNode::Link(_), HostNode::Directory) => Some(HostDifference::Replaced),
-        (HostNode::Link(_), HostNode::File(_)) => Some(HostDifference::Replaced),
+        (HostObject::Directory, HostObject::File(_)) => Some(HostDifference::Replaced),
+        (HostObject::Directory, HostObject::Link(_)) => Some(HostDifference::Replaced),
+        (HostObject::File(_), HostObject::Directory) => Some(HostDifference::Replaced),
+        (HostObject::File(_), HostObject::Link(_)) => Some(HostDifference::Replaced),
+        (HostObject::Link(_), HostObject::Directory) => Some(HostDifference::Replaced),
+        (HostObject::Link(_), HostObject::File(_)) => Some(HostDifference::Replaced),
     }
 }
 
@@ -81,7 +81,7 @@ fn or_changed(difference: Option<HostDifference>, are_alike: bool) -> Option<Hos
 fn entry_difference(rewrites: bool, old: &HostEntry, new: &HostEntry) -> Option<HostDifference>
     ensures { result ≡ entry_difference rewrites old.now new.now }
 {
-    let difference = node_difference(rewrites, &old.node, &new.node);
+    let difference = object_difference(rewrites, &old.object, &new.object);
     or_changed(difference, are_alike(old.attributes, new.attributes))
 }
 
@@ -153,13 +153,13 @@ fn add_between(
     path: &[Name],
     old: &HostEntry,
     new: &HostEntry,
-    of_nodes: &Entries<'_, Difference>,
+    of_objects: &Entries<'_, Difference>,
     all: &mut Differences,
 ) -> Result<(), AllocError>
     ensures { OnOk result (all.new ≡ all.old ++ told path.now
-        (entry_difference (is_of_bytes (find path_cmp path.now of_nodes.now.all.now)) old.now new.now)) }
+        (entry_difference (is_of_bytes (find path_cmp path.now of_objects.now.all.now)) old.now new.now)) }
 {
-    let rewrites = is_of_bytes(of_nodes.found(path));
+    let rewrites = is_of_bytes(of_objects.found(path));
     let difference = entry_difference(rewrites, old, new);
     add_if(alloc, path, difference, all)
 }
@@ -169,10 +169,10 @@ fn add_first(
     alloc: Global,
     old: &[(Path, HostEntry)],
     new: &[(Path, HostEntry)],
-    of_nodes: &Entries<'_, Difference>,
+    of_objects: &Entries<'_, Difference>,
     all: &mut Differences,
 ) -> Result<Option<Passed>, AllocError>
-    ensures { IfOk result (TellsNext (told_by of_nodes.now.all.now) old.now new.now all.old all.new) }
+    ensures { IfOk result (TellsNext (told_by of_objects.now.all.now) old.now new.now all.old all.new) }
 {
     match (old, new) {
         ([], []) => Ok(None),
@@ -190,7 +190,7 @@ fn add_first(
                 Ok(Some(OLD))
             }
             Ordering::Equal => {
-                add_between(alloc, e.0.as_slice(), &e.1, &f.1, of_nodes, all)?;
+                add_between(alloc, e.0.as_slice(), &e.1, &f.1, of_objects, all)?;
                 Ok(Some(BOTH))
             }
             Ordering::Greater => {
@@ -211,11 +211,11 @@ pub fn host_differences(
     alloc: Global,
     old: &[(Path, HostEntry)],
     new: &[(Path, HostEntry)],
-    of_nodes: &[(Path, Difference)],
+    of_objects: &[(Path, Difference)],
 ) -> Result<Items<(Path, HostDifference)>, AllocError>
-    ensures { IfOk result (λ all. all ≡ differences_by (told_by of_nodes.now) old.now new.now) }
+    ensures { IfOk result (λ all. all ≡ differences_by (told_by of_objects.now) old.now new.now) }
 {
-    let of_nodes = Entries::of(of_nodes);
+    let of_objects = Entries::of(of_objects);
     let mut all = Items::new(alloc);
     let mut in_old = 0;
     let mut in_new = 0;
@@ -223,7 +223,7 @@ pub fn host_differences(
         alloc,
         &old[in_old..],
         &new[in_new..],
-        &of_nodes,
+        &of_objects,
         &mut all,
     )? {
         in_old += passed.in_old;

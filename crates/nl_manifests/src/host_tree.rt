@@ -5,7 +5,7 @@ use nl_types::Items;
 
 /// What stands at a path of the host.
 #[derive(Drop)]
-pub enum HostNode {
+pub enum HostObject {
     Directory,
     File(Items<u8>),
     /// A symbolic link with its target: some bytes without NUL.
@@ -15,7 +15,7 @@ pub enum HostNode {
 /// The same with its attributes, where they are known.
 #[derive(Drop)]
 pub struct HostEntry {
-    pub node: HostNode,
+    pub object: HostObject,
     pub attributes: Option<Attributes>,
 }
 

@@ -20,7 +20,7 @@ mod sealing;
 
 pub use attributes::{Attributes, Time};
 pub use comparing::{HostDifference, host_differences};
-pub use host_tree::{HostEntry, HostNode, HostTree, LineFault, Opened};
+pub use host_tree::{HostEntry, HostObject, HostTree, LineFault, Opened};
 pub use manifest::{Line, LineKind, Manifest};
 pub use opening::open;
 pub use printing::printed;

@@ -3,15 +3,15 @@ ghost use Rattle.std.specs.Prelude.{◌≡◌, ◌++◌, [], ◌&&◌, IfOk, OnO
 ghost use Rattle.std.specs.Option.{option_copied};
 ghost use Rattle.std.specs.List.{flat_map};
 ghost use Rattle.nl_types.specs.Plain.Paths.{same_name};
-ghost use Rattle.nl_types.specs.declared.reply.Node.TheVariants.{File};
+ghost use Rattle.nl_types.specs.declared.reply.Object.TheVariants.{File};
 ghost use Rattle.nl_types.specs.Plain.Trees.{IsTree};
 ghost use Rattle.nl_manifests.specs.HostTrees.{Shows, line_in, manifest_at, last_name, manifest_for, manifest_name, parted, refused, shown_directory, shown_file, shown_in, shown_link, told_of_file};
 ghost use Rattle.nl_manifests.specs.Readings.{manifest_in};
-ghost use Rattle.nl_manifests.specs.Private.Opening.{above_in, entry_if, link_part, links_part, manifest_entry, manifests, node_part, parts};
+ghost use Rattle.nl_manifests.specs.Private.Opening.{above_in, entry_if, link_part, links_part, manifest_entry, manifests, object_part, parts};
 ghost use Rattle.nl_manifests.specs.Private.Places.{Puts, PutsIfOrdered};
 
 use crate::attributes::Attributes;
-use crate::host_tree::{HostEntry, HostNode, HostTree, Opened};
+use crate::host_tree::{HostEntry, HostObject, HostTree, Opened};
 use crate::looking::{Entries, Known};
 use crate::manifest::{Line, LineKind};
 use crate::names::is_manifest_name;
@@ -19,7 +19,7 @@ use crate::ordered::put;
 use crate::reading::read_manifest;
 use crate::refusing::refused_lines;
 use nl_folders::{Name, Path, copied, with_name};
-use nl_types::{Items, Node, is_name};
+use nl_types::{Items, Object, is_name};
 use std::alloc::{AllocError, Global};
 
 // ---- manifests
@@ -37,15 +37,15 @@ fn known(alloc: Global, bytes: &[u8]) -> Result<Option<Known>, AllocError>
 /// The manifest of a directory.
 fn manifest_at(
     alloc: Global,
-    tree: &Entries<'_, Node>,
+    tree: &Entries<'_, Object>,
     directory: &[Name],
 ) -> Result<Option<Known>, AllocError>
     ensures { IfOk result (λ manifest. manifest ≡ manifest_at tree.now.all.now directory.now) }
 {
     let path = with_name(alloc, directory, b".nlkeep".as_slice())?;
     match tree.found(path.as_slice()) {
-        Some(Node::File(bytes)) => known(alloc, bytes.as_slice()),
-        Some(Node::Dir) => Ok(None),
+        Some(Object::File(bytes)) => known(alloc, bytes.as_slice()),
+        Some(Object::Dir) => Ok(None),
         None => Ok(None),
     }
 }
@@ -53,15 +53,15 @@ fn manifest_at(
 /// The manifest of what stands at a path, none of a file.
 fn manifest_for(
     alloc: Global,
-    tree: &Entries<'_, Node>,
+    tree: &Entries<'_, Object>,
     path: &[Name],
-    node: &Node,
+    object: &Object,
 ) -> Result<Option<Known>, AllocError>
-    ensures { IfOk result (λ manifest. manifest ≡ manifest_for tree.now.all.now path.now node.now) }
+    ensures { IfOk result (λ manifest. manifest ≡ manifest_for tree.now.all.now path.now object.now) }
 {
-    match node {
-        Node::Dir => manifest_at(alloc, tree, path),
-        Node::File(_) => Ok(None),
+    match object {
+        Object::Dir => manifest_at(alloc, tree, path),
+        Object::File(_) => Ok(None),
     }
 }
 
@@ -83,7 +83,7 @@ fn add_manifest(
 }
 
 /// The manifests of all directories.
-fn manifests(alloc: Global, tree: &Entries<'_, Node>) -> Result<Items<(Path, Known)>, AllocError>
+fn manifests(alloc: Global, tree: &Entries<'_, Object>) -> Result<Items<(Path, Known)>, AllocError>
     ensures { IfOk result (λ all. all ≡ manifests tree.now.all.now) }
 {
     let mut all = Items::new(alloc);
@@ -106,7 +106,7 @@ fn shown_directory(own: Option<&Known>) -> HostEntry
         Some(manifest) => Some(manifest.own()),
     };
     HostEntry {
-        node: HostNode::Directory,
+        object: HostObject::Directory,
         attributes,
     }
 }
@@ -129,7 +129,7 @@ fn shown_file(alloc: Global, bytes: &[u8], line: Option<&Line>) -> Result<HostEn
     ensures { IfOk result (λ entry. entry ≡ shown_file bytes.now (option_copied line.entry)) }
 {
     Ok(HostEntry {
-        node: HostNode::File(Items::from_slice(alloc, bytes)?),
+        object: HostObject::File(Items::from_slice(alloc, bytes)?),
         attributes: file_attributes(line),
     })
 }
@@ -198,7 +198,7 @@ fn shown_link(alloc: Global, line: &Line) -> Result<Option<HostEntry>, AllocErro
     match &line.kind {
         LineKind::File => Ok(None),
         LineKind::Link(target) => Ok(Some(HostEntry {
-            node: HostNode::Link(Items::from_slice(alloc, target.as_slice())?),
+            object: HostObject::Link(Items::from_slice(alloc, target.as_slice())?),
             attributes: Some(line.attributes),
         })),
     }
@@ -220,7 +220,7 @@ fn put_if(path: Path, entry: Option<HostEntry>, shown: &mut Shown) -> Result<(),
 /// Puts the link of a line, where nothing stands in its place.
 fn put_link(
     alloc: Global,
-    tree: &Entries<'_, Node>,
+    tree: &Entries<'_, Object>,
     directory: &[Name],
     line: &Line,
     shown: &mut Shown,
@@ -240,7 +240,7 @@ fn put_link(
 
 fn put_links(
     alloc: Global,
-    tree: &Entries<'_, Node>,
+    tree: &Entries<'_, Object>,
     directory: &[Name],
     lines: &[Line],
     shown: &mut Shown,
@@ -256,7 +256,7 @@ fn put_links(
 
 fn put_links_of(
     alloc: Global,
-    tree: &Entries<'_, Node>,
+    tree: &Entries<'_, Object>,
     directory: &[Name],
     own: Option<&Known>,
     shown: &mut Shown,
@@ -271,40 +271,40 @@ fn put_links_of(
 }
 
 /// Puts a directory with the links in it, or a file.
-fn put_node(
+fn put_object(
     alloc: Global,
-    tree: &Entries<'_, Node>,
+    tree: &Entries<'_, Object>,
     all: &Entries<'_, Known>,
-    entry: &(Path, Node),
+    entry: &(Path, Object),
     shown: &mut Shown,
 ) -> Result<(), AllocError>
     ensures { OnOk result (PutsIfOrdered shown.old.items
-        (node_part tree.now.all.now all.now.all.now entry.now.0 entry.now.1) shown.new.items) }
+        (object_part tree.now.all.now all.now.all.now entry.now.0 entry.now.1) shown.new.items) }
 {
     let path = entry.0.as_slice();
     match &entry.1 {
-        Node::Dir => {
+        Object::Dir => {
             let own = all.found(path);
             put(shown, copied(alloc, path)?, shown_directory(own))?;
             put_links_of(alloc, tree, path, own, shown)
         }
-        Node::File(bytes) => {
+        Object::File(bytes) => {
             let file = file_at(alloc, all, path, bytes.as_slice())?;
             put_if(copied(alloc, path)?, file, shown)
         }
     }
 }
 
-fn put_nodes(
+fn put_objects(
     alloc: Global,
-    tree: &Entries<'_, Node>,
+    tree: &Entries<'_, Object>,
     all: &Entries<'_, Known>,
 ) -> Result<HostTree, AllocError>
     ensures { IfOk result (λ shown. Puts [] (parts tree.now.all.now all.now.all.now tree.now.all.now) shown) }
 {
     let mut shown = Vec::new(alloc);
     for entry in tree.all {
-        put_node(alloc, tree, all, entry, &mut shown)?;
+        put_object(alloc, tree, all, entry, &mut shown)?;
     }
     Ok(Items::from_vec(shown))
 }
@@ -314,14 +314,14 @@ fn put_nodes(
 ///
 /// # Errors
 /// Memory.
-pub fn open(alloc: Global, tree: &[(Path, Node)]) -> Result<Opened, AllocError>
+pub fn open(alloc: Global, tree: &[(Path, Object)]) -> Result<Opened, AllocError>
     ensures shows { IfOk result (λ opened. IsTree tree.now → Shows tree.now opened.tree) }
     ensures refused { IfOk result (λ opened. opened.refused ≡ refused tree.now) }
 {
     let entries = Entries::of(tree);
     let all = manifests(alloc, &entries)?;
     let manifests = Entries::of(all.as_slice());
-    let shown = put_nodes(alloc, &entries, &manifests)?;
+    let shown = put_objects(alloc, &entries, &manifests)?;
     let refused = refused_lines(alloc, &entries, &manifests)?;
     Ok(Opened {
         tree: shown,

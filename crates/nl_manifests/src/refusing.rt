@@ -10,18 +10,18 @@ use crate::host_tree::LineFault;
 use crate::looking::{Entries, Known};
 use crate::manifest::{Line, LineKind};
 use nl_folders::{Name, Path, with_name};
-use nl_types::{Items, Node, is_name};
+use nl_types::{Items, Object, is_name};
 use std::alloc::{AllocError, Global};
 
 type Refused = Items<(Path, LineFault)>;
 
 /// Why a line shows nothing, by what stands in its place.
-fn fault_at(kind: &LineKind, node: Option<&Node>) -> Option<LineFault>
-    ensures { result ≡ fault_at kind.now (option_copied node.entry) }
+fn fault_at(kind: &LineKind, object: Option<&Object>) -> Option<LineFault>
+    ensures { result ≡ fault_at kind.now (option_copied object.entry) }
 {
-    match (kind, node) {
-        (LineKind::File, Some(Node::File(_))) => None,
-        (LineKind::File, Some(Node::Dir)) => Some(LineFault::NoFile),
+    match (kind, object) {
+        (LineKind::File, Some(Object::File(_))) => None,
+        (LineKind::File, Some(Object::Dir)) => Some(LineFault::NoFile),
         (LineKind::File, None) => Some(LineFault::NoFile),
         (LineKind::Link(_), None) => None,
         (LineKind::Link(_), Some(_)) => Some(LineFault::Taken),
@@ -29,7 +29,7 @@ fn fault_at(kind: &LineKind, node: Option<&Node>) -> Option<LineFault>
 }
 
 /// The same of a line, where its path is there.
-fn fault_of(tree: &Entries<'_, Node>, path: &[Name], line: &Line) -> Option<LineFault>
+fn fault_of(tree: &Entries<'_, Object>, path: &[Name], line: &Line) -> Option<LineFault>
     ensures { result ≡ fault_of line.now (lookup tree.now.all.now path.now) }
 {
     if is_name(line.name.as_slice()) {
@@ -50,7 +50,7 @@ fn add_if(path: Path, fault: Option<LineFault>, refused: &mut Refused) -> Result
 
 fn add_line(
     alloc: Global,
-    tree: &Entries<'_, Node>,
+    tree: &Entries<'_, Object>,
     directory: &[Name],
     line: &Line,
     refused: &mut Refused,
@@ -65,7 +65,7 @@ fn add_line(
 
 fn add_lines(
     alloc: Global,
-    tree: &Entries<'_, Node>,
+    tree: &Entries<'_, Object>,
     directory: &[Name],
     lines: &[Line],
     refused: &mut Refused,
@@ -82,7 +82,7 @@ fn add_lines(
 /// The lines of manifests that show nothing.
 pub(crate) fn refused_lines(
     alloc: Global,
-    tree: &Entries<'_, Node>,
+    tree: &Entries<'_, Object>,
     all: &Entries<'_, Known>,
 ) -> Result<Refused, AllocError>
     ensures { IfOk result (λ refused. refused ≡ refused_lines tree.now.all.now all.now.all.now) }

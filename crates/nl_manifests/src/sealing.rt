@@ -8,7 +8,7 @@ ghost use Rattle.nl_manifests.specs.Sealed.{IsSealed, RefusesSealing, is_small, 
 ghost use Rattle.nl_manifests.specs.Private.Places.{Puts, PutsIfOrdered};
 ghost use Rattle.nl_manifests.specs.Private.Sealing.{lines_until, manifest_part, own_manifest, sealed_part, sealed_parts};
 
-use crate::host_tree::{HostEntry, HostNode};
+use crate::host_tree::{HostEntry, HostObject};
 use crate::judging::is_host_tree;
 use crate::manifest::{Line, LineKind, Manifest};
 use crate::names::name_below;
@@ -16,7 +16,7 @@ use crate::ordered::put;
 use crate::printing::printed;
 use nl_folders::{Name, Path, Tree, begins_with, copied, with_name};
 use nl_types::limits::{FILE_LIMIT, PATH_LIMIT};
-use nl_types::{Items, Node};
+use nl_types::{Items, Object};
 use std::alloc::{AllocError, AllocFailed, Global};
 
 /// The most paths of a tree, the root's included.
@@ -62,10 +62,10 @@ fn add_line(
     let Some(attributes) = entry.attributes else {
         return Ok(());
     };
-    let kind = match &entry.node {
-        HostNode::Directory => return Ok(()),
-        HostNode::File(_) => LineKind::File,
-        HostNode::Link(target) => LineKind::Link(Items::from_slice(alloc, target.as_slice())?),
+    let kind = match &entry.object {
+        HostObject::Directory => return Ok(()),
+        HostObject::File(_) => LineKind::File,
+        HostObject::Link(target) => LineKind::Link(Items::from_slice(alloc, target.as_slice())?),
     };
     lines.push(Line {
         name: Items::from_slice(alloc, name.as_slice())?,
@@ -101,20 +101,20 @@ fn own_manifest(
 ) -> Result<Option<Manifest>, AllocError>
     ensures { IfOk result (λ manifest. manifest ≡ own_manifest entry.now behind.now) }
 {
-    match (&entry.1.node, entry.1.attributes) {
-        (HostNode::Directory, Some(own)) => {
+    match (&entry.1.object, entry.1.attributes) {
+        (HostObject::Directory, Some(own)) => {
             let lines = lines_until(alloc, entry.0.as_slice(), behind)?;
             Ok(Some(Manifest { own, lines }))
         }
-        (HostNode::Directory, None) => Ok(None),
-        (HostNode::File(_), _) => Ok(None),
-        (HostNode::Link(_), _) => Ok(None),
+        (HostObject::Directory, None) => Ok(None),
+        (HostObject::File(_), _) => Ok(None),
+        (HostObject::Link(_), _) => Ok(None),
     }
 }
 
 // ---- entries
 
-type Sealed = Vec<(Path, Node)>;
+type Sealed = Vec<(Path, Object)>;
 
 fn put_manifest(
     alloc: Global,
@@ -130,7 +130,7 @@ fn put_manifest(
         Some(manifest) => {
             let path = with_name(alloc, directory, b".nlkeep".as_slice())?;
             let bytes = printed(alloc, &manifest)?;
-            put(sealed, path, Node::File(bytes))
+            put(sealed, path, Object::File(bytes))
         }
     }
 }
@@ -139,23 +139,23 @@ fn put_manifest(
 fn put_entry(
     alloc: Global,
     path: &[Name],
-    node: &HostNode,
+    object: &HostObject,
     manifest: Option<Manifest>,
     sealed: &mut Sealed,
 ) -> Result<(), AllocError>
-    ensures { OnOk result (PutsIfOrdered sealed.old.items (sealed_part path.now node.now manifest)
+    ensures { OnOk result (PutsIfOrdered sealed.old.items (sealed_part path.now object.now manifest)
         sealed.new.items) }
 {
-    match node {
-        HostNode::Directory => {
-            put(sealed, copied(alloc, path)?, Node::Dir)?;
+    match object {
+        HostObject::Directory => {
+            put(sealed, copied(alloc, path)?, Object::Dir)?;
             put_manifest(alloc, path, manifest, sealed)
         }
-        HostNode::File(bytes) => {
+        HostObject::File(bytes) => {
             let bytes = Items::from_slice(alloc, bytes.as_slice())?;
-            put(sealed, copied(alloc, path)?, Node::File(bytes))
+            put(sealed, copied(alloc, path)?, Object::File(bytes))
         }
-        HostNode::Link(_) => Ok(()),
+        HostObject::Link(_) => Ok(()),
     }
 }
 
@@ -169,7 +169,7 @@ fn put_all(alloc: Global, host: &[(Path, HostEntry)]) -> Result<Tree, AllocError
         put_entry(
             alloc,
             entry.0.as_slice(),
-            &entry.1.node,
+            &entry.1.object,
             manifest,
             &mut sealed,
         )?;
@@ -179,22 +179,22 @@ fn put_all(alloc: Global, host: &[(Path, HostEntry)]) -> Result<Tree, AllocError
 
 // ---- limits
 
-fn is_small(node: &Node) -> bool
-    ensures { result ≡ is_small node.now }
+fn is_small(object: &Object) -> bool
+    ensures { result ≡ is_small object.now }
 {
-    match node {
-        Node::Dir => true,
-        Node::File(bytes) => bytes.len() <= FILE_LIMIT as usize,
+    match object {
+        Object::Dir => true,
+        Object::File(bytes) => bytes.len() <= FILE_LIMIT as usize,
     }
 }
 
-fn are_small(tree: &[(Path, Node)]) -> bool
+fn are_small(tree: &[(Path, Object)]) -> bool
     ensures { result ≡ list_all (λ e. is_small e.1) tree.now }
 {
     tree.iter().all(|entry| is_small(&entry.1))
 }
 
-fn is_within_limits(tree: &[(Path, Node)]) -> bool
+fn is_within_limits(tree: &[(Path, Object)]) -> bool
     ensures { result ≡ is_within_limits tree.now }
 {
     let is_short = tree.len() <= MOST_PATHS;

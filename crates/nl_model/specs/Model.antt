@@ -2,7 +2,7 @@
 use Rattle.std.specs.Prelude.{if◌then◌else◌, Ok, Err}
 use Rattle.nl_types.specs.declared.event.Event.{Event}
 use Rattle.nl_types.specs.declared.reply.Answer.TheVariants as answer
-use Rattle.nl_types.specs.declared.reply.Node.{Node}
+use Rattle.nl_types.specs.declared.reply.Object.{Object}
 use Rattle.nl_types.specs.Plain.Paths.{Path, same_path}
 use Rattle.nl_types.specs.Plain.Trees.{Tree, lookup, move_subtree}
 use Rattle.nl_types.specs.Plain.Calls.{Changed, and_then, may_replace}
@@ -20,8 +20,8 @@ abbrev pub ModelStep : World → Event × Reply → Reply → World → Type 0
 ModelStep old event reply new = IsDoneUnlessMemory reply new old (step (cleaned_by event.1) old event.0)
 
 -- a rename of what stands at a path, into a directory that stands
-abbrev pub rename_onto : Tree → Path → Path → Node → Changed
-rename_onto tree from to node =
+abbrev pub rename_onto : Tree → Path → Path → Object → Changed
+rename_onto tree from to object =
     if same_path from to then Ok (answer.Done, tree) else (
-    and_then (may_replace tree to node (lookup tree to)) (λ _.
+    and_then (may_replace tree to object (lookup tree to)) (λ _.
     Ok (answer.Done, move_subtree tree from to)))

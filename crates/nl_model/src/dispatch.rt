@@ -6,11 +6,11 @@ ghost use Rattle.nl_types.specs.Plain.Calls.{IsUnlessMemory, and_then, change, i
 use crate::calls::{Changed, create, mkdir, read, truncate, write};
 use crate::dirs::{list, rename, rmdir, stat, unlink};
 use crate::path::Path;
-use nl_types::{Answer, Ask, Change, Node, Reply};
+use nl_types::{Answer, Ask, Change, Object, Reply};
 use std::alloc::Global;
 
 /// Makes a change.
-pub fn make(alloc: Global, entries: &[(Path, Node)], asked: &Change) -> Changed
+pub fn make(alloc: Global, entries: &[(Path, Object)], asked: &Change) -> Changed
     ensures { IsUnlessMemory result (change entries.now asked.now) }
 {
     match asked {
@@ -40,7 +40,7 @@ pub fn marks_dirty(asked: &Change) -> bool
 }
 
 /// The names in a directory, as an answer.
-fn answer_names(alloc: Global, entries: &[(Path, Node)], path: &[u8]) -> Reply
+fn answer_names(alloc: Global, entries: &[(Path, Object)], path: &[u8]) -> Reply
     ensures { IsUnlessMemory result
         (and_then (and_then (path_of path.now) (list entries.now)) (λ names. Ok (Answer.Names names))) }
 {
@@ -48,7 +48,7 @@ fn answer_names(alloc: Global, entries: &[(Path, Node)], path: &[u8]) -> Reply
 }
 
 /// What stands at a path, as an answer.
-fn answer_stat(alloc: Global, entries: &[(Path, Node)], path: &[u8]) -> Reply
+fn answer_stat(alloc: Global, entries: &[(Path, Object)], path: &[u8]) -> Reply
     ensures { IsUnlessMemory result
         (and_then (and_then (path_of path.now) (stat entries.now)) (λ found. Ok (Answer.Stat found))) }
 {
@@ -56,7 +56,7 @@ fn answer_stat(alloc: Global, entries: &[(Path, Node)], path: &[u8]) -> Reply
 }
 
 /// What a tree answers.
-pub fn reply(alloc: Global, entries: &[(Path, Node)], asked: &Ask) -> Reply
+pub fn reply(alloc: Global, entries: &[(Path, Object)], asked: &Ask) -> Reply
     ensures { IsUnlessMemory result (reply_to entries.now asked.now) }
 {
     match asked {

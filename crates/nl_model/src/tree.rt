@@ -1,29 +1,29 @@
 //! A tree as the list of its entries in order.
 ghost use Rattle.std.specs.Prelude.{◌≡◌, ◌≤◌, ◌∷◌, ◌++◌, map, length, OnOk, IfOk};
 ghost use Rattle.std.specs.Option.{option_copied};
-ghost use Rattle.nl_types.specs.declared.reply.Node.TheVariants.{File};
-ghost use Rattle.nl_types.specs.Plain.Trees.{lookup, insert, remove, root_alone, name_below, node_kind, children, moved_path, move_subtree};
+ghost use Rattle.nl_types.specs.declared.reply.Object.TheVariants.{File};
+ghost use Rattle.nl_types.specs.Plain.Trees.{lookup, insert, remove, root_alone, name_below, object_kind, children, moved_path, move_subtree};
 ghost use Rattle.nl_types.specs.Plain.Calls.{named};
 
 use crate::path::{Name, Path, begins_with, compare, is_same_name, push_name};
-use nl_types::{Items, Kind, Named, Node};
+use nl_types::{Items, Kind, Named, Object};
 use std::alloc::{AllocError, Global};
 use std::cmp::Ordering;
 
 /// The directories and files of a volume with their paths, ascending. The root is among them.
-pub type Tree = Items<(Path, Node)>;
+pub type Tree = Items<(Path, Object)>;
 
 /// The tree of a new volume.
 pub fn root_alone_tree(alloc: Global) -> Result<Tree, AllocError>
     ensures { IfOk result (λ tree. tree ≡ root_alone) }
 {
     let mut tree = Items::new(alloc);
-    tree.push((Items::new(alloc), Node::Dir))?;
+    tree.push((Items::new(alloc), Object::Dir))?;
     Ok(tree)
 }
 
 /// What stands at a path.
-pub fn find<'a>(entries: &'a [(Path, Node)], path: &[Name]) -> Option<&'a Node>
+pub fn find<'a>(entries: &'a [(Path, Object)], path: &[Name]) -> Option<&'a Object>
     ensures { option_copied result ≡ lookup entries.now path.now }
 {
     match entries {
@@ -61,12 +61,12 @@ fn name_in<'a>(dir: &[Name], path: &'a [Name]) -> Option<&'a Name>
     }
 }
 
-fn kind(node: &Node) -> Kind
-    ensures { result ≡ node_kind node.now }
+fn kind(object: &Object) -> Kind
+    ensures { result ≡ object_kind object.now }
 {
-    match node {
-        Node::Dir => Kind::Directory,
-        Node::File(_) => Kind::File,
+    match object {
+        Object::Dir => Kind::Directory,
+        Object::File(_) => Kind::File,
     }
 }
 
@@ -75,12 +75,12 @@ fn with_named(
     alloc: Global,
     mut names: Items<Named>,
     name: &[u8],
-    node: &Node,
+    object: &Object,
 ) -> Result<Items<Named>, AllocError>
-    ensures { IfOk result (λ all. all ≡ named (name.now, node_kind node.now) ∷ names) }
+    ensures { IfOk result (λ all. all ≡ named (name.now, object_kind object.now) ∷ names) }
 {
     let name = Items::from_slice(alloc, name)?;
-    let kind = kind(node);
+    let kind = kind(object);
     names.push_front(Named { name, kind })?;
     Ok(names)
 }
@@ -88,7 +88,7 @@ fn with_named(
 /// The names in a directory with their kinds, ascending.
 pub fn names_in(
     alloc: Global,
-    entries: &[(Path, Node)],
+    entries: &[(Path, Object)],
     dir: &[Name],
 ) -> Result<Items<Named>, AllocError>
     ensures { IfOk result (λ names. names ≡ map named (children entries.now dir.now)) }
@@ -106,7 +106,7 @@ pub fn names_in(
 }
 
 /// How many names a directory has.
-pub fn count_in(entries: &[(Path, Node)], dir: &[Name]) -> usize
+pub fn count_in(entries: &[(Path, Object)], dir: &[Name]) -> usize
     ensures value { result ≡ length (children entries.now dir.now) }
     ensures no_more { result ≤ length entries.now }
 {
@@ -143,32 +143,37 @@ fn copy_path(alloc: Global, path: &[Name]) -> Result<Path, AllocError>
     Ok(copy)
 }
 
-fn copy_node(alloc: Global, node: &Node) -> Result<Node, AllocError>
-    ensures { IfOk result (λ copy. copy ≡ node.now) }
+fn copy_object(alloc: Global, object: &Object) -> Result<Object, AllocError>
+    ensures { IfOk result (λ copy. copy ≡ object.now) }
 {
-    match node {
-        Node::Dir => Ok(Node::Dir),
-        Node::File(bytes) => Ok(Node::File(Items::from_slice(alloc, bytes.as_slice())?)),
+    match object {
+        Object::Dir => Ok(Object::Dir),
+        Object::File(bytes) => Ok(Object::File(Items::from_slice(alloc, bytes.as_slice())?)),
     }
 }
 
-fn copy_entry(alloc: Global, path: &[Name], node: &Node) -> Result<(Path, Node), AllocError>
-    ensures { IfOk result (λ copy. copy ≡ (path.now, node.now)) }
+fn copy_entry(alloc: Global, path: &[Name], object: &Object) -> Result<(Path, Object), AllocError>
+    ensures { IfOk result (λ copy. copy ≡ (path.now, object.now)) }
 {
     let path = copy_path(alloc, path)?;
-    let node = copy_node(alloc, node)?;
-    Ok((path, node))
+    let object = copy_object(alloc, object)?;
+    Ok((path, object))
 }
 
 /// The tree with a copy of an entry in front.
-fn with_first(alloc: Global, mut tree: Tree, path: &[Name], node: &Node) -> Result<Tree, AllocError>
-    ensures { IfOk result (λ all. all ≡ (path.now, node.now) ∷ tree) }
+fn with_first(
+    alloc: Global,
+    mut tree: Tree,
+    path: &[Name],
+    object: &Object,
+) -> Result<Tree, AllocError>
+    ensures { IfOk result (λ all. all ≡ (path.now, object.now) ∷ tree) }
 {
-    tree.push_front(copy_entry(alloc, path, node)?)?;
+    tree.push_front(copy_entry(alloc, path, object)?)?;
     Ok(tree)
 }
 
-pub fn copy(alloc: Global, entries: &[(Path, Node)]) -> Result<Tree, AllocError>
+pub fn copy(alloc: Global, entries: &[(Path, Object)]) -> Result<Tree, AllocError>
     ensures { IfOk result (λ copy. copy ≡ entries.now) }
 {
     match entries {
@@ -179,22 +184,22 @@ pub fn copy(alloc: Global, entries: &[(Path, Node)]) -> Result<Tree, AllocError>
     }
 }
 
-/// The tree with a node at a path.
+/// The tree with an object at a path.
 pub fn with(
     alloc: Global,
-    entries: &[(Path, Node)],
+    entries: &[(Path, Object)],
     path: &[Name],
-    node: &Node,
+    object: &Object,
 ) -> Result<Tree, AllocError>
-    ensures { IfOk result (λ tree. tree ≡ insert entries.now path.now node.now) }
+    ensures { IfOk result (λ tree. tree ≡ insert entries.now path.now object.now) }
 {
     match entries {
-        [] => with_first(alloc, Items::new(alloc), path, node),
+        [] => with_first(alloc, Items::new(alloc), path, object),
         [first, rest @ ..] => match compare(path, first.0.as_slice()) {
-            Ordering::Less => with_first(alloc, copy(alloc, entries)?, path, node),
-            Ordering::Equal => with_first(alloc, copy(alloc, rest)?, first.0.as_slice(), node),
+            Ordering::Less => with_first(alloc, copy(alloc, entries)?, path, object),
+            Ordering::Equal => with_first(alloc, copy(alloc, rest)?, first.0.as_slice(), object),
             Ordering::Greater => {
-                let tree = with(alloc, rest, path, node)?;
+                let tree = with(alloc, rest, path, object)?;
                 with_first(alloc, tree, first.0.as_slice(), &first.1)
             }
         },
@@ -204,17 +209,17 @@ pub fn with(
 /// The tree with a file at a path.
 pub fn with_file(
     alloc: Global,
-    entries: &[(Path, Node)],
+    entries: &[(Path, Object)],
     path: &[Name],
     bytes: Items<u8>,
 ) -> Result<Tree, AllocError>
     ensures { IfOk result (λ tree. tree ≡ insert entries.now path.now (File bytes)) }
 {
-    with(alloc, entries, path, &Node::File(bytes))
+    with(alloc, entries, path, &Object::File(bytes))
 }
 
 /// The tree with nothing at a path.
-pub fn without(alloc: Global, entries: &[(Path, Node)], path: &[Name]) -> Result<Tree, AllocError>
+pub fn without(alloc: Global, entries: &[(Path, Object)], path: &[Name]) -> Result<Tree, AllocError>
     ensures { IfOk result (λ tree. tree ≡ remove entries.now path.now) }
 {
     match entries {
@@ -246,7 +251,7 @@ fn path_after(alloc: Global, from: &[Name], to: &[Name], path: &[Name]) -> Resul
 /// The tree in which `to` stands in the place of `from` at the front of every path.
 pub fn with_moved(
     alloc: Global,
-    entries: &[(Path, Node)],
+    entries: &[(Path, Object)],
     from: &[Name],
     to: &[Name],
 ) -> Result<Tree, AllocError>

@@ -1,4 +1,4 @@
--- What a look at an image comes to.
+-- What a look at a state comes to.
 use Rattle.std.proofs.Common.{◌≡◌, ℕ, zero, suc, true, inl, inr, List, [], ◌∷◌, refl, ap, sym, ◌∙◌, subst, Option, None, Some}
 use Rattle.std.specs.Prelude.{slice_set}
 use Rattle.std.specs.Option.{option_and_then, option_map}
@@ -10,26 +10,26 @@ use Rattle.nl_types.specs.Blocks.Roots.{Pages}
 use Rattle.nl_types.specs.Plain.Trees.{Tree}
 use Rattle.nl_cpfile.specs.Tables.{kept_at, checkpoint_root}
 use Rattle.nl_cpfile.specs.declared.checkpoint.Checkpoint.{Checkpoint}
-use Rattle.nl_commit.specs.Commits.{IsHistory, IsShownImage, shown_after}
+use Rattle.nl_commit.specs.Commits.{IsHistory, IsShownState, shown_after}
 use Rattle.nl_commit.specs.Means.{RootMeans}
 use Rattle.nl_commit.specs.Shown.{Shown, mounted_on, pages_shown}
-use Rattle.nl_publish.specs.declared.image.Image.{Image}
+use Rattle.nl_publish.specs.declared.reader_state.ReaderState.{ReaderState}
 use Rattle.nl_publish.specs.Histories.{IsBegun, Known}
-use Rattle.nl_publish.specs.Images.{IsWhole, Kept, Looks}
+use Rattle.nl_publish.specs.States.{IsWhole, Kept, Looks}
 use Rattle.nl_publish.specs.Mounts.{Claim, IsClaim}
-use Rattle.nl_publish.specs.Told.{HistoriesShowImages, MountsBegin, MountsStay, TreeOn}
+use Rattle.nl_publish.specs.Told.{HistoriesShowStates, MountsBegin, MountsStay, TreeOn}
 use Rattle.nl_mounts.specs.declared.looks.MountedTree.{MountedTree}
-use Rattle.nl_lanes.specs.Reading.{Entered, Foreign, IsLater, Looked, NoImage, NoMount, Told}
+use Rattle.nl_lanes.specs.Reading.{Entered, Foreign, IsLater, Looked, NoState, NoMount, Told}
 use Rattle.nl_mounts.specs.Ports.{Finds, HasTreeIn, IsMountTree, IsOfTree, IsSeenOn, IsUngiven, Lacks, LookView, Made, Misses, NotGiven, NotMade, OfAnother, PortView, Shows, mounted_tree, seeing, tree_of, vacant}
 
--- ---- the rule of images
+-- ---- the rule of states
 
 set_again : {A : Type 0} (xs : List A) (i : ℕ) (x : A) → get_elem? xs i ≡ some x → slice_set xs i x ≡ xs
 set_again [] i x at = refl
 set_again (y ∷ xs) zero x at = ap (λ z. z ∷ xs) (sym (some-injective y x at))
 set_again (y ∷ xs) (suc i) x at = ap (λ ys. y ∷ ys) (set_again xs i x at)
 
--- a seat that looks leaves the image and what seats know as they were
+-- a seat that looks leaves the state and what seats know as they were
 pub looks_keep : (seat : ℕ) (v : List ℕ) → Turns Kept seat v (λ x. x) Looks
 looks_keep seat v x views kept at =
     (v, subst (Kept x) (sym (set_again views seat v at)) kept, (kept.whole, kept.known seat v at, refl))
@@ -72,8 +72,8 @@ means_root x n c t kept tree =
 
 -- ---- looks
 
--- an image that is as new as what was seen lacks the mount, or shows its checkpoint
-module _ (m : Claim) (old new : Known) (i : Image) (images : HistoriesShowImages) (stay : MountsStay)
+-- a state that is as new as what was seen lacks the mount, or shows its checkpoint
+module _ (m : Claim) (old new : Known) (i : ReaderState) (states : HistoriesShowStates) (stay : MountsStay)
     (begin : MountsBegin) (claim : IsClaim m) (begun : IsBegun m.told.commits)
     (volume : m.told.volume ≡ old.volume)
     (whole : IsWhole i) (later : IsLater old new) (log : new.commits ≡ i.seen.log) where
@@ -83,13 +83,13 @@ module _ (m : Claim) (old new : Known) (i : Image) (images : HistoriesShowImages
   shown : i.tables ≡ shown_after new.commits
   shown = whole.shown ∙ ap shown_after (sym log)
 
-  image : IsShownImage i.tables
-  image = subst IsShownImage (sym shown) (images new.commits history)
+  state : IsShownState i.tables
+  state = subst IsShownState (sym shown) (states new.commits history)
 
   lacks : None ≡ mounted_tree i.tables m.number → mounted_on (shown_after new.commits) m.number ≡ None
   lacks is = subst (λ (x : Shown). mounted_on x m.number ≡ None) shown
       (lacks_tree (mounted_on i.tables m.number) (λ n. kept_at n i.tables.table)
-      (λ n at. let c = image.mounted m.number n at in (c.0, c.1)) (sym is))
+      (λ n at. let c = state.mounted m.number n at in (c.0, c.1)) (sym is))
 
   -- the checkpoint is shown
   shows : (n : ℕ) (c : Checkpoint) → IsPrefix m.told.commits new.commits
@@ -179,13 +179,13 @@ comes m old new look x o Ungiven Refused Answers finds seen shown root answers =
     (under m old new look.shown Ungiven Refused Answers o look.tree root
     (subst (λ (y : Shown). IsOfTree (pages_shown y) o Refused Answers) shown answers)))
 
--- a call that finds no image is refused
-pub missed : {E : Type 0} (gives : E → Option Image → Type 0) (m : Claim) (p : PortView) (new : Known)
+-- a call that finds no state is refused
+pub missed : {E : Type 0} (gives : E → Option ReaderState → Type 0) (m : Claim) (p : PortView) (new : Known)
     (Refused : Type 0) (Answers : Tree → Type 0)
     → Misses gives m p → new ≡ p.known → Refused
     → Looked m p.known new (IsUngiven gives p.known p.seated) Refused Answers
 missed gives m p new Refused Answers (OfAnother other) same refused = Foreign other same refused
-missed gives m p new Refused Answers (NotGiven volume why) same refused = NoImage volume why same refused
+missed gives m p new Refused Answers (NotGiven volume why) same refused = NoState volume why same refused
 
 -- a port whose look came back
 pub record IsBack (old new : PortView) (front : Known) : Type 0 where

@@ -1,7 +1,7 @@
 -- How mounts stand, by what looks find.
 use Rattle.std.proofs.Common.{◌≡◌, ap, sym, subst, ◌∙◌, Option, Some}
 use Rattle.nl_commit.specs.Shown.{Shown}
-use Rattle.nl_publish.specs.declared.image.Image.{Image}
+use Rattle.nl_publish.specs.declared.reader_state.ReaderState.{ReaderState}
 use Rattle.nl_publish.specs.Histories.{Known}
 use Rattle.nl_publish.specs.Mounts.{Claim}
 use Rattle.nl_mounts.specs.declared.looks.MountedTree.{MountedTree}
@@ -11,7 +11,7 @@ use Rattle.nl_mounts.specs.Ports as ports
 use Rattle.nl_mounts.specs.Ports.{Finds, IsUngiven, Misses, PortView}
 use Rattle.nl_mounts.specs.Standings.{Lacking, NotGiven, Showing, StandsAs, standing_of}
 
-pub stands_missed : {E : Type 0} (gives : E → Option Image → Type 0) (m : Claim) (p : PortView) (new : Known)
+pub stands_missed : {E : Type 0} (gives : E → Option ReaderState → Type 0) (m : Claim) (p : PortView) (new : Known)
     (s : Standing)
     → m.told.volume ≡ p.known.volume → Misses gives m p → new ≡ p.known → s ≡ standing.Ended
     → StandsAs m p.known new (IsUngiven gives p.known p.seated) s

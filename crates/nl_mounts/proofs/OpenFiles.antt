@@ -1,4 +1,4 @@
--- What the file of an open mount's path is, in each image that has the mount.
+-- What the file of an open mount's path is, in each state that has the mount.
 use Rattle.std.proofs.Common.{◌≡◌, ℕ, zero, suc, ◌-◌, ◌≤◌, min, List, [], ◌∷◌, ◌++◌, length, take, drop, Option, None, Some, Result, Ok, Err, refl, ap, sym, ◌∙◌, subst, arith}
 use Rattle.std.specs.Prelude.{IfErr, IsOk, MatchResult, OnErr}
 use Rattle.std.proofs.lemmas.List.{length-take, length-drop, take-append-drop}
@@ -24,9 +24,9 @@ use Rattle.nl_publish.specs.KeptHoldings.{HoldsOn}
 use Rattle.nl_publish.specs.Mounts.{Claim, IsClaim}
 use Rattle.nl_publish.specs.Told.{TreeOn}
 use Rattle.nl_publish.specs.Facts.KeptHoldings.{kept_holdings_stay, mounts_hold}
-use Rattle.nl_publish.specs.Facts.Staying.{history_image}
+use Rattle.nl_publish.specs.Facts.Staying.{history_state}
 use Rattle.nl_lanes.specs.Facts.Later.{later_self}
-use Rattle.nl_publish.specs.declared.image.Image.{Image}
+use Rattle.nl_publish.specs.declared.reader_state.ReaderState.{ReaderState}
 use Rattle.nl_mounts.specs.declared.looks.MountedTree.{MountedTree}
 use Rattle.nl_mounts.specs.OpenFiles.{HoldsAsTold, IsFileOf, IsFileRead, IsOpenOf, IsPartRefused, bytes_at}
 use Rattle.nl_mounts.specs.declared.standing.Standing.TheVariants as standing
@@ -49,7 +49,7 @@ module _ (m : Claim) (old new : Known) (x : Shown) (t : MountedTree) (claim : Is
   kept : kept_at m.checkpoint (shown_after new.commits).table ≡ Some at.checkpoint
   kept = subst (λ (n : ℕ). kept_at n (shown_after new.commits).table ≡ Some at.checkpoint) at.is_own at.kept
 
-  -- it holds the same in both images
+  -- it holds the same in both states
   same : (held now : Holding) → HoldsOn (shown_after m.told.commits) m.checkpoint held
       → HoldsOn (shown_after new.commits) m.checkpoint now → now ≡ held
   same held now =
@@ -66,10 +66,10 @@ module _ (m : Claim) (old new : Known) (x : Shown) (t : MountedTree) (claim : Is
         (subst (λ (r : Root). HoldsTree (pages_shown x) (root_of r) held) (sym at.root) holds);
   }
 
-  -- what is held in the image, and so in the tree
+  -- what is held in the state, and so in the tree
   here : (held : Holding) × HoldsTree (pages_shown x) (root_of t.root) held
   here =
-      let tree = (history_image new.commits history).trees m.checkpoint at.checkpoint kept in (
+      let tree = (history_state new.commits history).trees m.checkpoint at.checkpoint kept in (
         tree.means.held,
         subst (λ (r : Root). HoldsTree (pages_shown x) (root_of r) tree.means.held) at.root
             (subst (λ (y : Shown).
@@ -205,7 +205,7 @@ open_bytes m path i file t on =
 
 -- ---- why a part isn't read
 
-pub part_missed : {E : Type 0} (gives : E → Option Image → Type 0) (m : Claim) (p : PortView) (new : Known)
+pub part_missed : {E : Type 0} (gives : E → Option ReaderState → Type 0) (m : Claim) (p : PortView) (new : Known)
     (e : VolError)
     → Misses gives m p → new ≡ p.known → e ≡ BadMount
     → IsPartRefused m p.known new (λ k. IsUngiven gives k p.seated) e

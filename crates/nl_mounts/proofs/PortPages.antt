@@ -19,7 +19,7 @@ use Rattle.nl_publish.specs.Cached.{IsCachedPage}
 use Rattle.nl_publish.specs.Histories.{IsBegun, Known}
 use Rattle.nl_publish.specs.Mounts.{Claim}
 use Rattle.nl_publish.specs.Facts.CachedPages.{cached_pages_stay, kept_low}
-use Rattle.nl_publish.specs.Facts.Staying.{history_image}
+use Rattle.nl_publish.specs.Facts.Staying.{history_state}
 use Rattle.nl_mounts.specs.declared.cache.CacheKey.{CacheKey}
 use Rattle.nl_mounts.specs.declared.looks.MountedTree.{MountedTree}
 use Rattle.nl_mounts.specs.Caching.{AreCachedPages, Cache, HasCachedBlocks, key_of}
@@ -103,11 +103,11 @@ module _ (m : Claim) (old new : Known) (x : Shown) (t : MountedTree) (at : IsMou
       → IsStored (HoldsTree (pages_shown x) (root_of t.root)) t.checkpoint (key, page)
       → IsCachedPage new.commits key.checkpoint key.inode key.index page
   stored_page history key page stored =
-      let image = history_image new.commits history in
+      let state = history_state new.commits history in
       let table = (shown_after new.commits).table in
       subst (λ (n : ℕ). IsCachedPage new.commits n key.inode key.index page) (sym stored.checkpoint) (record {
         history = history;
-        given = kept_low table.earlier table.latest image.table.rising t.checkpoint at.checkpoint at.kept;
+        given = kept_low table.earlier table.latest state.table.rising t.checkpoint at.checkpoint at.kept;
         block = λ c held kept holds.
             let kept_now = at.kept in
             let same : c ≡ at.checkpoint = cc (kept, kept_now) in

@@ -12,7 +12,7 @@ use Rattle.nl_publish.specs.Facts.Staying.{found_pushed, new_mount}
 use Rattle.nl_publish.specs.Histories.{IsBegun, Known}
 use Rattle.nl_publish.specs.Locks.{HeldPen, told_by}
 use Rattle.nl_publish.specs.Mounts.{Claim, IsClaim}
-use Rattle.nl_publish.specs.Told.{HistoriesShowImages, KeptTreesStay, PublishedWorldsAreShown, TreeOn}
+use Rattle.nl_publish.specs.Told.{HistoriesShowStates, KeptTreesStay, PublishedWorldsAreShown, TreeOn}
 use Rattle.nl_mounts.specs.declared.shared.ToldReply.{ToldReply}
 use Rattle.nl_mounts.specs.InOrder.{MountsShowWhatWasTold}
 use Rattle.nl_mounts.specs.Sharing.Tells.{Apart, Came}
@@ -54,8 +54,8 @@ shown_mount m claim begun =
           ∙ found_pushed m.number m.checkpoint (shown_after claim.0).mounts new.none);
     }
 
-pub mounts_show : PublishedWorldsAreShown → KeptTreesStay → HistoriesShowImages → MountsShowWhatWasTold
-mounts_show worlds stay images port seen event told answer m w copy done replied is means found claim begun later =
+pub mounts_show : PublishedWorldsAreShown → KeptTreesStay → HistoriesShowStates → MountsShowWhatWasTold
+mounts_show worlds stay states port seen event told answer m w copy done replied is means found claim begun later =
     let new = done.new in
     let here = all_told done.old new port seen event told answer replied is done.tells in
     let log : List Commit = new.published in
@@ -65,5 +65,5 @@ mounts_show worlds stay images port seen event told answer m w copy done replied
     let prefix : IsPrefix log m.told.commits =
     subst (λ (k : Known). IsPrefix k.commits m.told.commits) here.seen_is later.commits in
     let at = shown_mount m claim begun in
-    let kept = (images m.told.commits at.history).mounted m.number m.checkpoint at.mounted in
+    let kept = (states m.told.commits at.history).mounted m.number m.checkpoint at.mounted in
     stay log m.told.commits m.checkpoint copy.tree kept.0 history begun prefix tree kept.1

@@ -2,14 +2,14 @@
 use Rattle.std.proofs.Common.{◌≡◌, ap, sym, ◌∙◌, subst}
 use Rattle.nl_commit.specs.Commits.{IsHistory, shown_after}
 use Rattle.nl_commit.specs.Shown.{Shown}
-use Rattle.nl_publish.specs.declared.image.Image.{Image}
+use Rattle.nl_publish.specs.declared.reader_state.ReaderState.{ReaderState}
 use Rattle.nl_publish.specs.Histories.{Known}
-use Rattle.nl_publish.specs.Images.{IsWhole}
+use Rattle.nl_publish.specs.States.{IsWhole}
 use Rattle.nl_lanes.specs.Reading.{IsLater}
 use Rattle.nl_mounts.specs.Ports.{LookView}
 use Rattle.nl_mounts.specs.Visiting.{Entered, HasEntered, Visited}
 
-pub entered : (old new : Known) (i : Image) → IsWhole i → IsLater old new → new.commits ≡ i.seen.log
+pub entered : (old new : Known) (i : ReaderState) → IsWhole i → IsLater old new → new.commits ≡ i.seen.log
     → HasEntered old new i.tables
 entered old new i whole later log = record {
   seen = record { later = later; history = subst IsHistory (sym log) whole.history };

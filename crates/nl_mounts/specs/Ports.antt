@@ -23,7 +23,7 @@ use Rattle.nl_files.specs.CheckpointTrees.{HoldsTree}
 use Rattle.nl_commit.specs.Commits.{IsHistory, shown_after}
 use Rattle.nl_commit.specs.Means.{RootMeans}
 use Rattle.nl_commit.specs.Shown.{Shown, mounted_on, pages_shown}
-use Rattle.nl_publish.specs.declared.image.Image.{Image}
+use Rattle.nl_publish.specs.declared.reader_state.ReaderState.{ReaderState}
 use Rattle.nl_publish.specs.Histories.{Known}
 use Rattle.nl_publish.specs.Mounts.{Claim}
 use Rattle.nl_publish.specs.Told.{TreeOn}
@@ -78,20 +78,20 @@ Learns m old new = (new ≡ old) ⊎ (new ≡ seeing old m.told)
 
 -- ---- entering
 
--- an image's history is a proper beginning of what was seen
-pub record IsOlder (i : Image) (k : Known) : Type 0 where
+-- a state's history is a proper beginning of what was seen
+pub record IsOlder (i : ReaderState) (k : Known) : Type 0 where
   pub begins : IsPrefix i.seen.log k.commits
   pub shorter : length i.seen.log < length k.commits
 
--- Why a port was given no image that is as new as what it has seen: it has no reader, or its reader was given
+-- Why a port was given no state that is as new as what it has seen: it has no reader, or its reader was given
 -- none, or an older one.
-pub data IsUngiven {E : Type 0} (gives : E → Option Image → Type 0) (k : Known) (seated : Bool) : Type 0 where
+pub data IsUngiven {E : Type 0} (gives : E → Option ReaderState → Type 0) (k : Known) (seated : Bool) : Type 0 where
   HasNoReader : seated ≡ false → IsUngiven gives k seated
   GivenNone : (reader : E) → gives reader None → IsUngiven gives k seated
-  GivenOlder : (reader : E) (i : Image) → gives reader (Some i) → IsOlder i k → IsUngiven gives k seated
+  GivenOlder : (reader : E) (i : ReaderState) → gives reader (Some i) → IsOlder i k → IsUngiven gives k seated
 
--- why it doesn't look for a mount: the mount is another volume's, or it was given no image
-pub data Misses {E : Type 0} (gives : E → Option Image → Type 0) (m : Claim) (p : PortView) : Type 0 where
+-- why it doesn't look for a mount: the mount is another volume's, or it was given no state
+pub data Misses {E : Type 0} (gives : E → Option ReaderState → Type 0) (m : Claim) (p : PortView) : Type 0 where
   OfAnother : m.told.volume ≢ p.known.volume → Misses gives m p
   NotGiven : m.told.volume ≡ p.known.volume → IsUngiven gives p.known p.seated → Misses gives m p
 
@@ -133,7 +133,7 @@ tree_of n c = record { checkpoint = n; root = checkpoint_root c }
 abbrev pub mounted_tree : Shown → ℕ → Option MountedTree
 mounted_tree x m = option_and_then (λ n. option_map (tree_of n) (kept_at n x.table)) (mounted_on x m)
 
--- The tree that a mount shows in the image x of what has been seen, of the checkpoint that it names. Its root
+-- The tree that a mount shows in the state x of what has been seen, of the checkpoint that it names. Its root
 -- means the tree that this had when the mount was told.
 pub record IsMountTree (m : Claim) (old new : Known) (x : Shown) (tree : MountedTree) : Type 0 where
   pub volume : m.told.volume ≡ old.volume
@@ -149,7 +149,7 @@ pub record IsMountTree (m : Claim) (old new : Known) (x : Shown) (tree : Mounted
   pub told : (t : Tree) → TreeOn (shown_after m.told.commits) m.checkpoint t
       → RootMeans (pages_shown x) tree.root t
 
--- What a look for a mount at the image x finds, whose history is as new as what was seen: the image lacks the
+-- What a look for a mount at the state x finds, whose history is as new as what was seen: the state lacks the
 -- mount, or shows its checkpoint.
 pub data Finds (m : Claim) (old new : Known) (x : Shown) (tree : Option MountedTree) : Type 0 where
   Lacks : m.told.volume ≡ old.volume → IsSeenOn old new
@@ -158,7 +158,7 @@ pub data Finds (m : Claim) (old new : Known) (x : Shown) (tree : Option MountedT
   Shows : (t : MountedTree) → IsSeenOn old new → IsMountTree m old new x t → tree ≡ Some t
       → Finds m old new x tree
 
--- the tree of a mount in an image whose history is known, where the mount was made
+-- the tree of a mount in a state whose history is known, where the mount was made
 pub data HasTreeIn (m : Claim) (k : Known) (x : Shown) (tree : Option MountedTree) : Type 0 where
   Made : IsPrefix m.told.commits k.commits → tree ≡ mounted_tree x m.number → HasTreeIn m k x tree
   NotMade : IsPrefix k.commits m.told.commits → length k.commits < length m.told.commits → tree ≡ None
@@ -183,7 +183,7 @@ abbrev pub OfTreeFile : Pages → Option MountedTree → (path : List ℕ) → (
 OfTreeFile pages tree path P =
     (t : MountedTree) → tree ≡ Some t → OfHeldFile (HoldsTree pages (root_of t.root)) t.checkpoint path P
 
--- so it does of the file in the checkpoint that a mount shows in an image
+-- so it does of the file in the checkpoint that a mount shows in a state
 abbrev pub OfMountFile : Shown → (mount : ℕ) → (path : List ℕ) → (ℕ → Holding → ℕ → Type 0) → Type 0
 OfMountFile x m path P = (n : ℕ) (c : Checkpoint) → mounted_on x m ≡ Some n → kept_at n x.table ≡ Some c
     → OfHeldFile (HoldsTree (pages_shown x) (root_of (checkpoint_root c))) n path P

@@ -12,8 +12,8 @@ abbrev pub standing_of : Option MountedTree → Standing
 standing_of None = standing.GivenBack
 standing_of (Some tree) = standing.Mounted
 
--- the mount is another volume's; or the port was given no image that is as new as what it has seen; or the
--- image that it entered, of a history that goes on from that, lacks the mount, or shows its checkpoint
+-- the mount is another volume's; or the port was given no state that is as new as what it has seen; or the
+-- state that it entered, of a history that goes on from that, lacks the mount, or shows its checkpoint
 pub data StandsAs (m : Claim) (old new : Known) (Ungiven : Type 0) (s : Standing) : Type 0 where
   OfAnother : m.told.volume ≢ old.volume → new ≡ old → s ≡ standing.Foreign → StandsAs m old new Ungiven s
   NotGiven : m.told.volume ≡ old.volume → Ungiven → new ≡ old → s ≡ standing.Ended

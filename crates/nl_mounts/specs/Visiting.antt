@@ -16,13 +16,13 @@ use Rattle.nl_publish.specs.Histories.{Known}
 use Rattle.nl_publish.specs.Told.{TreeOn}
 use Rattle.nl_mounts.specs.Ports.{IsSeenOn}
 
--- an image was entered that a history makes, which goes on from what was seen
+-- a state was entered that a history makes, which goes on from what was seen
 pub record HasEntered (old new : Known) (x : Shown) : Type 0 where
   pub seen : IsSeenOn old new
   pub shown : x ≡ shown_after new.commits
 
--- What a call of a port without a mount comes to. It is refused where it was given no image that is as new as
--- what it has seen. Else the answer is that of the image of one history, which goes on from what was seen, and
+-- What a call of a port without a mount comes to. It is refused where it was given no state that is as new as
+-- what it has seen. Else the answer is that of the state of one history, which goes on from what was seen, and
 -- is what has been seen then.
 pub data Visited (old new : Known) (Ungiven Refused : Type 0) (Answers : Shown → Type 0) : Type 0 where
   NotGiven : Ungiven → new ≡ old → Refused → Visited old new Ungiven Refused Answers

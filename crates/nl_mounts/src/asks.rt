@@ -8,18 +8,18 @@ use crate::enters::Enters;
 use crate::looks::MountedTree;
 use crate::port::Port;
 use nl_files::ReadTree;
-use nl_publish::{Image, Mount, Volumes};
+use nl_publish::{Mount, ReaderState, Volumes};
 use nl_tree::answer;
 use nl_types::{Ask, Reply, VolError};
 use std::alloc::Global;
 
 /// What a tree that was found replies; `BadMount` where there is none.
-fn reply_in(alloc: Global, image: &Image, tree: Option<MountedTree>, ask: &Ask) -> Reply
-    ensures { IsOfTree (pages_shown image.now.tables) tree (result ≡ Err VolError.BadMount)
+fn reply_in(alloc: Global, state: &ReaderState, tree: Option<MountedTree>, ask: &Ask) -> Reply
+    ensures { IsOfTree (pages_shown state.now.tables) tree (result ≡ Err VolError.BadMount)
         (λ t. IsReplyOf t ask.now result) }
 {
     match tree {
-        Some(tree) => answer(alloc, &ReadTree::new(&image.tables, tree.root), ask),
+        Some(tree) => answer(alloc, &ReadTree::new(&state.tables, tree.root), ask),
         None => Err(VolError::BadMount),
     }
 }
@@ -43,7 +43,7 @@ impl<J: Volumes, E: Enters> Port<J, E> {
         match self.look(mount) {
             Err(refusal) => Err(refusal),
             Ok(look) => {
-                let reply = reply_in(alloc, look.image(), look.tree(), ask);
+                let reply = reply_in(alloc, look.state(), look.tree(), ask);
                 self.come_back(look);
                 reply
             }

@@ -13,7 +13,7 @@ use crate::looks::MountedTree;
 use crate::port::Port;
 use crate::taken::{MOST_TAKEN, TakenBytes};
 use nl_files::ReadTree;
-use nl_publish::{Image, Mount, Volumes};
+use nl_publish::{Mount, ReaderState, Volumes};
 use nl_tree::{find_file, read_file_into};
 use nl_types::{InodeNumber, VolError};
 use std::marker::Model;
@@ -48,13 +48,13 @@ pub struct PartsRead {
 
 /// Opens the file at a path of the tree that a mount has; `BadMount` where there is none.
 fn open_in<'a, J: Volumes>(
-    image: &Image,
+    state: &ReaderState,
     tree: Option<MountedTree>,
     mount: &'a Mount<J>,
     path: &'a [u8],
 ) -> Result<FileAt<'a, J>, VolError>
-    requires { HoldsAsTold mount.now (pages_shown image.now.tables) tree }
-    ensures opens { IsOfTree (pages_shown image.now.tables) tree (result ≡ Err VolError.BadMount)
+    requires { HoldsAsTold mount.now (pages_shown state.now.tables) tree }
+    ensures opens { IsOfTree (pages_shown state.now.tables) tree (result ≡ Err VolError.BadMount)
         (λ t. IsOpenOf t path.now result) }
     ensures mount { IfOk result (λ f. f.mount ≡ mount.now) }
     ensures path { IfOk result (λ f. f.path ≡ path.now) }
@@ -62,7 +62,7 @@ fn open_in<'a, J: Volumes>(
     let Some(found) = tree else {
         return Err(VolError::BadMount);
     };
-    match find_file(&ReadTree::new(&image.tables, found.root), path) {
+    match find_file(&ReadTree::new(&state.tables, found.root), path) {
         Err(refusal) => Err(refusal),
         Ok(inode) => Ok(FileAt { mount, path, inode }),
     }
@@ -93,7 +93,7 @@ impl<J: Volumes, E: Enters> Port<J, E> {
         match self.look(mount) {
             Err(refusal) => Err(refusal),
             Ok(look) => {
-                let result = open_in(look.image(), look.tree(), mount, path);
+                let result = open_in(look.state(), look.tree(), mount, path);
                 self.come_back(look);
                 result
             }
@@ -105,13 +105,13 @@ impl<J: Volumes> FileAt<'_, J> {
     /// Reads bytes in the tree that the mount has.
     fn read_in(
         &self,
-        image: &Image,
+        state: &ReaderState,
         tree: Option<MountedTree>,
         offset: u64,
         into: &mut [u8],
     ) -> Result<usize, VolError>
-        requires { HoldsAsTold self.now.mount (pages_shown image.now.tables) tree }
-        ensures reads { IsOfTree (pages_shown image.now.tables) tree (IsNotRead result into.old into.new)
+        requires { HoldsAsTold self.now.mount (pages_shown state.now.tables) tree }
+        ensures reads { IsOfTree (pages_shown state.now.tables) tree (IsNotRead result into.old into.new)
             (λ t. IsFileRead t self.now.path offset into.old result into.new) }
         ensures refused { OnErr result (tree ≡ None) }
         ensures within { IfOk result (λ count. count ≤ length into.new) }
@@ -120,7 +120,7 @@ impl<J: Volumes> FileAt<'_, J> {
         match tree {
             None => Err(VolError::BadMount),
             Some(found) => {
-                let tree = ReadTree::new(&image.tables, found.root);
+                let tree = ReadTree::new(&state.tables, found.root);
                 Ok(read_file_into(&tree, self.inode, offset, into))
             }
         }
@@ -156,7 +156,7 @@ impl<J: Volumes> FileAt<'_, J> {
         match port.look(self.mount) {
             Err(refusal) => Err(refusal),
             Ok(look) => {
-                let result = self.read_in(look.image(), look.tree(), offset, into);
+                let result = self.read_in(look.state(), look.tree(), offset, into);
                 port.come_back(look);
                 result
             }
@@ -167,14 +167,14 @@ impl<J: Volumes> FileAt<'_, J> {
     /// a page has too many owners.
     fn take_in(
         &self,
-        image: &Image,
+        state: &ReaderState,
         tree: Option<MountedTree>,
         offset: u64,
         len: usize,
     ) -> Result<Option<TakenBytes>, VolError>
-        requires holds { HoldsAsTold self.now.mount (pages_shown image.now.tables) tree }
+        requires holds { HoldsAsTold self.now.mount (pages_shown state.now.tables) tree }
         requires most { len ≤ 65536 }
-        ensures taken { IsOfTree (pages_shown image.now.tables) tree (result ≡ Err VolError.BadMount)
+        ensures taken { IsOfTree (pages_shown state.now.tables) tree (result ≡ Err VolError.BadMount)
             (λ t. IsTakenOf t self.now.path offset len result) }
         ensures refused { OnErr result (tree ≡ None) }
         ensures within { IfOk result (λ found. IfSome found (λ taken. taken.count ≤ len)) }
@@ -183,7 +183,7 @@ impl<J: Volumes> FileAt<'_, J> {
         match tree {
             None => Err(VolError::BadMount),
             Some(found) => {
-                let tree = ReadTree::new(&image.tables, found.root);
+                let tree = ReadTree::new(&state.tables, found.root);
                 Ok(TakenBytes::of_file(&tree, self.inode, offset, len).ok())
             }
         }
@@ -210,7 +210,7 @@ impl<J: Volumes> FileAt<'_, J> {
         match port.look(self.mount) {
             Err(refusal) => Err(refusal),
             Ok(look) => {
-                let result = self.take_in(look.image(), look.tree(), offset, len);
+                let result = self.take_in(look.state(), look.tree(), offset, len);
                 port.come_back(look);
                 result
             }

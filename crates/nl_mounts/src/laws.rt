@@ -11,5 +11,5 @@ pub fn mounts_show_what_was_told()
 {
     publish_laws::published_worlds_are_shown();
     publish_laws::kept_trees_stay();
-    publish_laws::histories_show_images();
+    publish_laws::histories_show_states();
 }

@@ -4,7 +4,7 @@ ghost use Rattle.std.specs.Option.{option_map_or};
 ghost use Rattle.lru.specs.LruCache.{lru_cache};
 ghost use Rattle.nl_commit.specs.Commits.{shown_after};
 ghost use Rattle.nl_commit.specs.Shown.{pages_shown};
-ghost use Rattle.nl_publish.specs.Images.{name_of};
+ghost use Rattle.nl_publish.specs.States.{name_of};
 ghost use Rattle.nl_mounts.specs.Caching.{AreCachedPages, IsCacheRefused, IsCacheSize};
 ghost use Rattle.nl_lanes.specs.Reading.{HasLearned, IsBytesOf, IsLater, Looked, Told};
 ghost use Rattle.nl_mounts.specs.Ports.{Finds, IsCacheOf, IsListOf, IsNotRead, IsOfTree, IsReadOf, IsSeenOn, IsStatOf, IsUngiven, Learns, Misses, OfMountFile, OfTreeFile, PutsOfTree, TouchesIfAny, WarmsIfAny, fresh, joined, seeing, taken, vacant};
@@ -16,7 +16,7 @@ use crate::cached_reads::{read_cached, warm};
 use crate::enters::Enters;
 use crate::looks::{Look, MountedTree, find, front_at};
 use nl_files::ReadTree;
-use nl_publish::{Front, Image, ImageReader, Mount, Seat, Volumes};
+use nl_publish::{Front, Mount, ReaderState, Seat, StateReader, Volumes};
 use nl_tree::{list, read, read_into, stat};
 use nl_types::{Items, Named, Stat, VolError};
 use std::alloc::Global;
@@ -25,7 +25,7 @@ use std::marker::Model;
 /// A reader's end of a shared volume. It may keep pages of files that it reads often. Contracts see what it
 /// has seen of the volume's history, what it keeps, and whether it has its reader.
 #[derive(Drop)]
-pub struct Port<J: Volumes, E: Enters = ImageReader> {
+pub struct Port<J: Volumes, E: Enters = StateReader> {
     /// It is out while a call looks, and while the port is out of its place.
     reader: Option<E>,
     front: Front<J>,
@@ -36,7 +36,7 @@ pub struct Port<J: Volumes, E: Enters = ImageReader> {
 impl<J: Volumes, E: Enters> Model for Port<J, E> {
     ghost use Rattle.std.specs.Prelude.{◌≡◌, is_some};
     ghost use Rattle.std.specs.Option.{ForSome};
-    ghost use Rattle.nl_publish.specs.Images.{name_of};
+    ghost use Rattle.nl_publish.specs.States.{name_of};
     ghost use Rattle.nl_mounts.specs.Caching.{AreCachedPages};
     ghost use Rattle.nl_mounts.specs.Ports.{PortView};
 
@@ -52,23 +52,23 @@ impl<J: Volumes, E: Enters> Model for Port<J, E> {
 
 /// Reads a file, through the cache where there is one. Its blocks come to the front there.
 fn read_in(
-    image: &Image,
+    state: &ReaderState,
     tree: Option<MountedTree>,
     cache: &mut Option<Cache>,
     path: &[u8],
     offset: u64,
     into: &mut [u8],
 ) -> Result<usize, VolError>
-    requires { IsCacheOf (pages_shown image.now.tables) tree cache.old }
-    ensures reads { IsOfTree (pages_shown image.now.tables) tree (IsNotRead result into.old into.new)
+    requires { IsCacheOf (pages_shown state.now.tables) tree cache.old }
+    ensures reads { IsOfTree (pages_shown state.now.tables) tree (IsNotRead result into.old into.new)
         (λ t. IsReadOf t path.now offset into.old result into.new) }
-    ensures touched { TouchesIfAny (OfTreeFile (pages_shown image.now.tables) tree path.now)
+    ensures touched { TouchesIfAny (OfTreeFile (pages_shown state.now.tables) tree path.now)
         offset cache.old result cache.new }
 {
     let Some(found) = tree else {
         return Err(VolError::BadMount);
     };
-    let tree = ReadTree::new(&image.tables, found.root);
+    let tree = ReadTree::new(&state.tables, found.root);
     match cache {
         None => read_into(&tree, path, offset, into),
         Some(cache) => read_cached(&tree, found.checkpoint, cache, path, offset, into),
@@ -77,22 +77,22 @@ fn read_in(
 
 /// Puts blocks of a file into the cache.
 fn warm_in(
-    image: &Image,
+    state: &ReaderState,
     tree: Option<MountedTree>,
     cache: &mut Cache,
     path: &[u8],
     offset: u64,
     len: u64,
 ) -> Result<usize, VolError>
-    ensures refused { IsOfTree (pages_shown image.now.tables) tree (result ≡ Err VolError.BadMount)
+    ensures refused { IsOfTree (pages_shown state.now.tables) tree (result ≡ Err VolError.BadMount)
         (λ t. IsWarmingOf t path.now result) }
-    ensures warmed { Warms (OfTreeFile (pages_shown image.now.tables) tree path.now)
+    ensures warmed { Warms (OfTreeFile (pages_shown state.now.tables) tree path.now)
         offset len cache.old result cache.new }
-    ensures stored { PutsOfTree (pages_shown image.now.tables) tree cache.old cache.new }
+    ensures stored { PutsOfTree (pages_shown state.now.tables) tree cache.old cache.new }
 {
     match tree {
         Some(tree) => warm(
-            &ReadTree::new(&image.tables, tree.root),
+            &ReadTree::new(&state.tables, tree.root),
             tree.checkpoint,
             cache,
             path,
@@ -105,19 +105,19 @@ fn warm_in(
 
 fn bytes_in(
     alloc: Global,
-    image: &Image,
+    state: &ReaderState,
     tree: Option<MountedTree>,
     path: &[u8],
     offset: u64,
     len: u64,
 ) -> Result<Items<u8>, VolError>
-    ensures { IsOfTree (pages_shown image.now.tables) tree (result ≡ Err VolError.BadMount)
+    ensures { IsOfTree (pages_shown state.now.tables) tree (result ≡ Err VolError.BadMount)
         (λ t. IsBytesOf t path.now offset len result) }
 {
     match tree {
         Some(tree) => read(
             alloc,
-            &ReadTree::new(&image.tables, tree.root),
+            &ReadTree::new(&state.tables, tree.root),
             path,
             offset,
             len,
@@ -126,27 +126,27 @@ fn bytes_in(
     }
 }
 
-fn stat_in(image: &Image, tree: Option<MountedTree>, path: &[u8]) -> Result<Stat, VolError>
-    ensures { IsOfTree (pages_shown image.now.tables) tree (result ≡ Err VolError.BadMount)
+fn stat_in(state: &ReaderState, tree: Option<MountedTree>, path: &[u8]) -> Result<Stat, VolError>
+    ensures { IsOfTree (pages_shown state.now.tables) tree (result ≡ Err VolError.BadMount)
         (λ t. IsStatOf t path.now result) }
 {
     match tree {
-        Some(tree) => stat(&ReadTree::new(&image.tables, tree.root), path),
+        Some(tree) => stat(&ReadTree::new(&state.tables, tree.root), path),
         None => Err(VolError::BadMount),
     }
 }
 
 fn list_in(
     alloc: Global,
-    image: &Image,
+    state: &ReaderState,
     tree: Option<MountedTree>,
     path: &[u8],
 ) -> Result<Items<Named>, VolError>
-    ensures { IsOfTree (pages_shown image.now.tables) tree (result ≡ Err VolError.BadMount)
+    ensures { IsOfTree (pages_shown state.now.tables) tree (result ≡ Err VolError.BadMount)
         (λ t. IsListOf t path.now result) }
 {
     match tree {
-        Some(tree) => list(alloc, &ReadTree::new(&image.tables, tree.root), path),
+        Some(tree) => list(alloc, &ReadTree::new(&state.tables, tree.root), path),
         None => Err(VolError::BadMount),
     }
 }
@@ -269,8 +269,8 @@ impl<J: Volumes, E: Enters> Port<J, E> {
         }
     }
 
-    /// Enters the image that is published, and looks for a mount there. Until the look comes back, the port
-    /// has no reader. Refused by `BadMount` where the mount is another volume's, and where no image is given
+    /// Enters the state that is published, and looks for a mount there. Until the look comes back, the port
+    /// has no reader. Refused by `BadMount` where the mount is another volume's, and where no state is given
     /// that is as new as what was seen.
     pub(crate) fn look(&mut self, mount: &Mount<J>) -> Result<Look<J, E>, VolError>
         ensures same { OnErr result (self.new ≡ self.old) }
@@ -292,7 +292,7 @@ impl<J: Volumes, E: Enters> Port<J, E> {
                 self.reader = Some(reader);
                 Err(VolError::BadMount)
             }
-            Ok(inside) => match find(E::image(&inside), &self.front, mount) {
+            Ok(inside) => match find(E::state(&inside), &self.front, mount) {
                 None => {
                     self.reader = Some(E::leave(inside));
                     Err(VolError::BadMount)
@@ -306,8 +306,8 @@ impl<J: Volumes, E: Enters> Port<J, E> {
         }
     }
 
-    /// Enters the image that is published. Until the look comes back, the port has no reader. Refused by
-    /// `BadMount` where no image is given that is as new as what was seen.
+    /// Enters the state that is published. Until the look comes back, the port has no reader. Refused by
+    /// `BadMount` where no state is given that is as new as what was seen.
     pub(crate) fn visit(&mut self) -> Result<Look<J, E>, VolError>
         ensures same { OnErr result (self.new ≡ self.old) }
         ensures refused { IfErr result (λ e. e ≡ VolError.BadMount) }
@@ -324,7 +324,7 @@ impl<J: Volumes, E: Enters> Port<J, E> {
                 self.reader = Some(reader);
                 Err(VolError::BadMount)
             }
-            Ok(inside) => match front_at(E::image(&inside), &self.front) {
+            Ok(inside) => match front_at(E::state(&inside), &self.front) {
                 None => {
                     self.reader = Some(E::leave(inside));
                     Err(VolError::BadMount)
@@ -378,7 +378,7 @@ impl<J: Volumes, E: Enters> Port<J, E> {
         match self.look(mount) {
             Err(refusal) => Err(refusal),
             Ok(look) => {
-                let result = read_in(look.image(), look.tree(), cache, path, offset, into);
+                let result = read_in(look.state(), look.tree(), cache, path, offset, into);
                 self.come_back(look);
                 result
             }
@@ -442,7 +442,7 @@ impl<J: Volumes, E: Enters> Port<J, E> {
         match self.look(mount) {
             Err(refusal) => Err(refusal),
             Ok(look) => {
-                let result = warm_in(look.image(), look.tree(), cache, path, offset, len);
+                let result = warm_in(look.state(), look.tree(), cache, path, offset, len);
                 self.come_back(look);
                 result
             }
@@ -504,7 +504,7 @@ impl<J: Volumes, E: Enters> Port<J, E> {
         match self.look(mount) {
             Err(refusal) => Err(refusal),
             Ok(look) => {
-                let result = bytes_in(alloc, look.image(), look.tree(), path, offset, len);
+                let result = bytes_in(alloc, look.state(), look.tree(), path, offset, len);
                 self.come_back(look);
                 result
             }
@@ -526,7 +526,7 @@ impl<J: Volumes, E: Enters> Port<J, E> {
         match self.look(mount) {
             Err(refusal) => Err(refusal),
             Ok(look) => {
-                let result = stat_in(look.image(), look.tree(), path);
+                let result = stat_in(look.state(), look.tree(), path);
                 self.come_back(look);
                 result
             }
@@ -553,7 +553,7 @@ impl<J: Volumes, E: Enters> Port<J, E> {
         match self.look(mount) {
             Err(refusal) => Err(refusal),
             Ok(look) => {
-                let result = list_in(alloc, look.image(), look.tree(), path);
+                let result = list_in(alloc, look.state(), look.tree(), path);
                 self.come_back(look);
                 result
             }

@@ -7,25 +7,29 @@ ghost use Rattle.nl_mounts.specs.Visiting.{IsListingOf, IsReadOfKept, Visited};
 use crate::enters::Enters;
 use crate::port::Port;
 use nl_files::ReadTree;
-use nl_publish::{Image, Volumes};
+use nl_publish::{ReaderState, Volumes};
 use nl_tree::answer;
 use nl_types::{Ask, CheckpointNumber, Items, ListOptions, Reply, Row, VolError};
 use std::alloc::Global;
 
-/// The rows of a listing of an image's checkpoints. Refused by `Memory` alone.
-fn rows_in(alloc: Global, image: &Image, options: &ListOptions) -> Result<Items<Row>, VolError>
-    ensures { IsListingOf options.now result image.now.tables }
+/// The rows of a listing of a state's checkpoints. Refused by `Memory` alone.
+fn rows_in(
+    alloc: Global,
+    state: &ReaderState,
+    options: &ListOptions,
+) -> Result<Items<Row>, VolError>
+    ensures { IsListingOf options.now result state.now.tables }
 {
-    let rows = image.tables.checkpoints().listing(alloc, options)?;
+    let rows = state.tables.checkpoints().listing(alloc, options)?;
     Ok(rows)
 }
 
-/// What the tree of an image's checkpoint answers.
-fn read_kept(alloc: Global, image: &Image, number: CheckpointNumber, ask: &Ask) -> Reply
-    ensures { IsReadOfKept number ask.now result image.now.tables }
+/// What the tree of a state's checkpoint answers.
+fn read_kept(alloc: Global, state: &ReaderState, number: CheckpointNumber, ask: &Ask) -> Reply
+    ensures { IsReadOfKept number ask.now result state.now.tables }
 {
-    match image.tables.kept(number) {
-        Some(checkpoint) => answer(alloc, &ReadTree::new(&image.tables, checkpoint.root), ask),
+    match state.tables.kept(number) {
+        Some(checkpoint) => answer(alloc, &ReadTree::new(&state.tables, checkpoint.root), ask),
         None => Err(VolError::NoCheckpoint),
     }
 }
@@ -51,7 +55,7 @@ impl<J: Volumes, E: Enters> Port<J, E> {
         match self.visit() {
             Err(refusal) => Err(refusal),
             Ok(look) => {
-                let result = rows_in(alloc, look.image(), options);
+                let result = rows_in(alloc, look.state(), options);
                 self.come_back(look);
                 result
             }
@@ -75,7 +79,7 @@ impl<J: Volumes, E: Enters> Port<J, E> {
         match self.visit() {
             Err(refusal) => Err(refusal),
             Ok(look) => {
-                let result = read_kept(alloc, look.image(), number, ask);
+                let result = read_kept(alloc, look.state(), number, ask);
                 self.come_back(look);
                 result
             }

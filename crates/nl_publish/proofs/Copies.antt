@@ -4,7 +4,7 @@ use Rattle.nl_types.specs.Blocks.Roots.{Pages}
 use Rattle.nl_types.specs.Plain.Worlds.{Copy, World, copy_at}
 use Rattle.nl_cpfile.specs.Tables.{kept_at, checkpoint_root}
 use Rattle.nl_cpfile.specs.declared.checkpoint.Checkpoint.{Checkpoint}
-use Rattle.nl_commit.specs.Commits.{IsHistory, IsShownImage, shown_after}
+use Rattle.nl_commit.specs.Commits.{IsHistory, IsShownState, shown_after}
 use Rattle.nl_commit.specs.Layout.{MeansWorld, layout_pages}
 use Rattle.nl_commit.specs.Means.{RootMeans}
 use Rattle.nl_commit.specs.Notes.{shown_of}
@@ -16,7 +16,7 @@ use Rattle.nl_commit.specs.Facts.ShownNumbers.{pages-shown}
 use Rattle.nl_publish.specs.Locks.{HeldPen, IsHeldPen}
 use Rattle.nl_publish.specs.Told.{PublishedWorldsAreShown, ShowsCopy, TreeOn}
 use Rattle.nl_publish.proofs.Running.{HasMounted}
-use Rattle.nl_publish.specs.Facts.Staying.{found_pushed, history_image, new_mount}
+use Rattle.nl_publish.specs.Facts.Staying.{found_pushed, history_state, new_mount}
 
 -- the history that a mount's commit ends shows that mount
 pub mounted_last : (before : List Commit) (m k : ℕ)
@@ -26,11 +26,11 @@ mounted_last before m k h =
     let new = new_mount before m k h in
     ap (λ (x : Shown). mounted_on x m) new.grown ∙ found_pushed m k (shown_after before).mounts new.none
 
--- a copy that the pen means is what its image shows
-copy_shown : (h : HeldPen) (k : ℕ) (w : World) → MeansWorld h.layout w → (m : ℕ) → IsShownImage (shown_of h.layout)
+-- a copy that the pen means is what its state shows
+copy_shown : (h : HeldPen) (k : ℕ) (w : World) → MeansWorld h.layout w → (m : ℕ) → IsShownState (shown_of h.layout)
     → mounted_on (shown_of h.layout) m ≡ Some k → ShowsCopy (shown_of h.layout) k w
-copy_shown h k w means m image at =
-    let c = image.mounted m k at in
+copy_shown h k w means m state at =
+    let c = state.mounted m k at in
     let copy = copy_of (layout_pages h.layout) h.layout.lists w k (Some c.0) means c.1 in
     record {
       copy = copy.0;
@@ -56,7 +56,7 @@ shows_copy h m k w told mounted means =
     ap (λ (log : List Commit). mounted_on (shown_after log) m) mounted.ends.1
     ∙ mounted_last mounted.ends.0 m k ends in
     subst (λ (x : Shown). ShowsCopy x k w) (sym at)
-    (copy_shown h k w means m (subst IsShownImage at (history_image h.published history))
+    (copy_shown h k w means m (subst IsShownState at (history_state h.published history))
     (subst (λ (x : Shown). mounted_on x m ≡ Some k) at found))
 
 -- where all is published, each copy of a world that the pen means is shown

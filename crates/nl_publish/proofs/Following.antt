@@ -27,8 +27,8 @@ last_precedes (c ∷ earlier) a b rising = last_precedes earlier a b rising.1
 pub written-comes_next : (x : Shown) (w : NewCheckpoint) → IsNext x (Written w)
     → ComesNext w.checkpoint x.table
 written-comes_next x w next = record {
-  follows = last_precedes x.table.earlier x.table.latest w.checkpoint next.image.table.rising;
-  limit = next.image.table.limit;
+  follows = last_precedes x.table.earlier x.table.latest w.checkpoint next.state.table.rising;
+  limit = next.state.table.limit;
 }
 
 -- ---- modes

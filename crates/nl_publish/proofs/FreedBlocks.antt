@@ -15,7 +15,7 @@ use Rattle.nl_vstore.specs.Stores.{IsStore, Numbered, Store, address_in, block_n
 use Rattle.nl_files.specs.Facts.Staying.{root-sound}
 use Rattle.nl_cpfile.specs.Tables.{checkpoint_root, kept_at}
 use Rattle.nl_cpfile.specs.declared.checkpoint.Checkpoint.{Checkpoint}
-use Rattle.nl_commit.specs.Commits.{AllNext, IsHistory, IsShownImage, IsNext, applied, shown_after}
+use Rattle.nl_commit.specs.Commits.{AllNext, IsHistory, IsShownState, IsNext, applied, shown_after}
 use Rattle.nl_commit.specs.Layout.{Layout, layout_pages, ledger_of, reached_by}
 use Rattle.nl_commit.specs.Notes.{shown_of}
 use Rattle.nl_commit.specs.Shown.{Shown, mounted_on, nothing, pages_shown}
@@ -25,19 +25,19 @@ use Rattle.nl_publish.specs.Locks.{HeldPen, IsSoundState}
 use Rattle.nl_publish.specs.ReadPages.{IsKept, IsMounted, MayRead, ReadPagesStand, ReadPagesStay, RetirementsSpareReadPages, Stands, StillHas}
 use Rattle.nl_publish.specs.Facts.CachedPages.{behind, kept_low}
 use Rattle.nl_publish.specs.Facts.Growing.{fold-grows}
-use Rattle.nl_publish.specs.Facts.Staying.{history_image, mount_is_same, rest_of}
+use Rattle.nl_publish.specs.Facts.Staying.{history_state, mount_is_same, rest_of}
 
--- ---- the page is in the image itself
+-- ---- the page is in the state itself
 
 some-of : (o : Option (List ℕ)) → IsSome o → (page : List ℕ) × (o ≡ Some page)
 some-of (Some page) some = (page, refl)
 some-of None some = absurd cc
 
-page-in : (x : Shown) (n v : ℕ) → IsShownImage x → MayRead x n v
+page-in : (x : Shown) (n v : ℕ) → IsShownState x → MayRead x n v
     → (page : List ℕ) × (pages_shown x v ≡ Some page)
-page-in x n v image reads =
+page-in x n v state reads =
     let root = root_of (checkpoint_root reads.checkpoint) in
-    let tree = image.trees n reads.checkpoint reads.kept in
+    let tree = state.trees n reads.checkpoint reads.kept in
     let place = reads.place in
     some-of (pages_shown x v)
     ((root-sound (pages_shown x) root tree.sound place.inode).stored place.level place.offset v reads.reached)
@@ -50,7 +50,7 @@ record IsAt (q : Place) (v : ℕ) (page : List ℕ) (y : Shown) (c : Checkpoint)
   shown : pages_shown y v ≡ Some page
 
 module _ (n v : ℕ) (q : Place) (page : List ℕ) where
-  -- so it is with checkpoint n, where the image keeps it
+  -- so it is with checkpoint n, where the state keeps it
   record HasAt (y : Shown) : Type 0 where
     given : n ≤ y.table.latest.number
     at : (c : Checkpoint) → kept_at n y.table ≡ Some c → IsAt q v page y c
@@ -99,15 +99,15 @@ module _ (log later : List Commit) (n v : ℕ) (began : IsHistory log) (history 
   on = goes_on log later began history prefix
 
   abbrev page : List ℕ
-  page = (page-in x n v (history_image log began) reads).0
+  page = (page-in x n v (history_state log began) reads).0
 
   page-is : pages_shown x v ≡ Some page
-  page-is = (page-in x n v (history_image log began) reads).1
+  page-is = (page-in x n v (history_state log began) reads).1
 
   has_at : HasAt n v reads.place page x
   has_at = record {
     given =
-        kept_low x.table.earlier x.table.latest (history_image log began).table.rising n reads.checkpoint
+        kept_low x.table.earlier x.table.latest (history_state log began).table.rising n reads.checkpoint
         reads.kept;
     at = λ c is.
         let kept = reads.kept in
@@ -127,9 +127,9 @@ module _ (log later : List Commit) (n v : ℕ) (began : IsHistory log) (history 
   kept_still : StillHas x y n → (c : Checkpoint) × (kept_at n y.table ≡ Some c)
   kept_still (IsKept c is) = (c, is)
   kept_still (IsMounted m k was is) =
-      let c = (history_image later history).mounted m k is in
+      let c = (history_state later history).mounted m k is in
       let same : k ≡ n =
-      mount_is_same x on.more m n k (history_image log began) on.next was
+      mount_is_same x on.more m n k (history_state log began) on.next was
       (subst (λ (z : Shown). mounted_on z m ≡ Some k) (sym on.at) is) in
       (c.0, subst (λ (i : ℕ). kept_at i y.table ≡ Some c.0) same c.1)
 
@@ -213,7 +213,7 @@ module _ (h : HeldPen) (log : List Commit) (n v : ℕ) (sound : IsSoundState h) 
   l = h.layout
 
   abbrev page-read : List ℕ
-  page-read = (page-in (shown_after log) n v (history_image log history) reads).0
+  page-read = (page-in (shown_after log) n v (history_state log history) reads).0
 
   has_in : StillHas (shown_after log) (shown_after h.history) n
   has_in = subst (λ (y : Shown). StillHas (shown_after log) y n) sound.told.shown has
@@ -249,7 +249,7 @@ module _ (h : HeldPen) (log : List Commit) (n v : ℕ) (sound : IsSoundState h) 
 
 pub read_pages_stand : ReadPagesStand
 read_pages_stand h log n v sound history prefix reads =
-    let page = page-in (shown_after log) n v (history_image log history) reads in
+    let page = page-in (shown_after log) n v (history_state log history) reads in
     record {
       page = page.0;
       shown = page.1;
@@ -268,4 +268,4 @@ retirements_spare_read_pages old new segment answer log n v sound history prefix
 pub read_pages_stay : ReadPagesStay
 read_pages_stay log later n v began history prefix reads has =
     (at_later log later n v began history prefix reads has).shown
-    ∙ sym (page-in (shown_after log) n v (history_image log began) reads).1
+    ∙ sym (page-in (shown_after log) n v (history_state log began) reads).1

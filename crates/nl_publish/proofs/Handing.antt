@@ -6,10 +6,10 @@ use Rattle.logbook.specs.Pages.{Book}
 use Rattle.nl_commit.specs.declared.commit.Commit.{Commit}
 use Rattle.nl_commit.specs.Layout.{Layout}
 use Rattle.nl_commit.specs.Shown.{Shown}
-use Rattle.nl_publish.specs.declared.image.Image.{Image}
-use Rattle.nl_publish.specs.declared.image.Entry.{Entry}
+use Rattle.nl_publish.specs.declared.reader_state.ReaderState.{ReaderState}
+use Rattle.nl_publish.specs.declared.reader_state.Entry.{Entry}
 use Rattle.nl_publish.specs.Histories.{Known}
-use Rattle.nl_publish.specs.Images.{HasShown, absorbed}
+use Rattle.nl_publish.specs.States.{HasShown, absorbed}
 use Rattle.nl_publish.specs.Locks.{HeldPen, IsHeld, StaysHeld, listed}
 use Rattle.nl_publish.specs.Noting.{EntryComes, Noted, WasLeft}
 use Rattle.nl_publish.specs.Refusals.{HasRefused}
@@ -18,10 +18,10 @@ use Rattle.nl_publish.proofs.Holding.{notes}
 use Rattle.nl_publish.proofs.Running.{keeps_noted}
 
 -- what is seen of what lies under a lock
-abbrev pub held_view : Image → Known → Option Entry → List Commit → Option ℕ → Layout → ℕ → HeldPen
-held_view image noted unsent waiting lost layout refusals = record {
+abbrev pub held_view : ReaderState → Known → Option Entry → List Commit → Option ℕ → Layout → ℕ → HeldPen
+held_view state noted unsent waiting lost layout refusals = record {
   volume = noted.volume;
-  published = image.seen.log;
+  published = state.seen.log;
   history = noted.commits ++ waiting;
   unsent = length (listed unsent) + length waiting;
   lost = lost;
@@ -53,7 +53,7 @@ module _ (book : ℕ → Book) (unsent : Option Entry) (noted noted' : Known) (w
   fewer after (Noted was at) none = rw (none, was, at.first) (omega arith)
 
   -- the entry is behind those of the writer
-  pub comes_held : (log : ℕ) (p : Image) (us : List Entry) (pen : Shown)
+  pub comes_held : (log : ℕ) (p : ReaderState) (us : List Entry) (pen : Shown)
       → EntryComes book unsent noted waiting noted' waiting' e
       → IsHeld book log p (us ++ listed unsent) noted waiting pen
       → IsHeld book log p (us ++ e ∷ []) noted' waiting' pen
@@ -69,13 +69,13 @@ module _ (book : ℕ → Book) (unsent : Option Entry) (noted noted' : Known) (w
       notes book log p us noted e.commit waiting' pen noted' e at.volume at.commits refl at.count at.log
       at.book_is here
 
-  pub comes_keeps : (p p' : Image) (after : Option Entry) (was : Option ℕ) (layout : Layout) (n n' : ℕ)
+  pub comes_keeps : (p p' : ReaderState) (after : Option Entry) (was : Option ℕ) (layout : Layout) (n n' : ℕ)
       → EntryComes book unsent noted waiting noted' waiting' e → p' ≡ p → n ≤ n'
       → StaysHeld (held_view p noted unsent waiting was layout n) (held_view p' noted' after waiting' was layout n')
-  comes_keeps p p' after was layout n n' comes image less =
-      subst (λ (q : Image).
+  comes_keeps p p' after was layout n n' comes state less =
+      subst (λ (q : ReaderState).
       StaysHeld (held_view p noted unsent waiting was layout n) (held_view q noted' after waiting' was layout n'))
-      (sym image)
+      (sym state)
       (keeps_noted (held_view p noted unsent waiting was layout n) noted'.volume (noted'.commits ++ waiting')
       (length (listed after) + length waiting') n' (comes_volume comes) (comes_history comes) less)
 
@@ -83,7 +83,7 @@ module _ (book : ℕ → Book) (unsent : Option Entry) (noted noted' : Known) (w
 module _ (book : ℕ → Book) (log log' : ℕ) (unsent unsent' : Option Entry) (noted noted' : Known)
     (waiting waiting' : List Commit) (own : log' ≡ log) (none : unsent ≡ None) (out : unsent' ≡ None)
     (left : noted' ≡ noted) (waits : waiting' ≡ waiting) where
-  pub nothing_held : (p : Image) (us : List Entry) (pen : Shown)
+  pub nothing_held : (p : ReaderState) (us : List Entry) (pen : Shown)
       → IsHeld book log p (us ++ listed unsent) noted waiting pen
       → IsHeld book log' p (us ++ listed unsent') noted' waiting' pen
   nothing_held p us pen h =
@@ -92,7 +92,7 @@ module _ (book : ℕ → Book) (log log' : ℕ) (unsent unsent' : Option Entry) 
       (subst (λ (k : Known). IsHeld book log p (us ++ listed unsent) k waiting' pen) (sym left)
       (subst (λ (l : List Commit). IsHeld book log p (us ++ listed unsent) noted l pen) (sym waits) h)))
 
-  pub nothing_keeps : (p : Image) (was : Option ℕ) (layout : Layout) (n n' : ℕ) → n ≤ n'
+  pub nothing_keeps : (p : ReaderState) (was : Option ℕ) (layout : Layout) (n n' : ℕ) → n ≤ n'
       → StaysHeld (held_view p noted unsent waiting was layout n) (held_view p noted' unsent' waiting' was layout n')
   nothing_keeps p was layout n n' less =
       keeps_noted (held_view p noted unsent waiting was layout n) noted'.volume (noted'.commits ++ waiting')
@@ -140,7 +140,7 @@ none_listed None [] none = (refl, refl)
 none_listed None (c ∷ waiting) none = absurd (omega (arith, none))
 none_listed (Some e) waiting none = absurd (omega (arith, none))
 
-module _ (book : ℕ → Book) (log : ℕ) (p p' : Image) (us us' : List Entry) (unsent : Option Entry) (noted : Known)
+module _ (book : ℕ → Book) (log : ℕ) (p p' : ReaderState) (us us' : List Entry) (unsent : Option Entry) (noted : Known)
     (waiting : List Commit) (pen : Shown) where
   all_shown : p' ≡ fold absorbed p us → IsHeld book log p (us ++ listed unsent) noted waiting pen
       → length (listed unsent) + length waiting ≡ 0 → p'.seen.log ≡ noted.commits ++ waiting
@@ -150,7 +150,7 @@ module _ (book : ℕ → Book) (log : ℕ) (p p' : Image) (us us' : List Entry) 
       h.last
       ∙ ap (λ (l : List Entry). (fold absorbed p l).seen.log)
       (ap (λ (l : List Entry). us ++ l) empty.0 ∙ append-nil us) in
-      ap (λ (q : Image). q.seen.log) is
+      ap (λ (q : ReaderState). q.seen.log) is
       ∙ (sym last
       ∙ (sym (append-nil noted.commits) ∙ ap (λ (l : List Commit). noted.commits ++ l) (sym empty.1)))
 

@@ -12,10 +12,10 @@ use Rattle.nl_commit.specs.Shown.{Shown, nothing}
 use Rattle.nl_commit.specs.Commits.{AllNext, IsHistory, applied, shown_after}
 use Rattle.nl_commit.specs.Layout.{Layout}
 use Rattle.nl_commit.specs.Notes.{shown_of}
-use Rattle.nl_publish.specs.declared.image.Image.{Image}
-use Rattle.nl_publish.specs.declared.image.Entry.{Entry}
+use Rattle.nl_publish.specs.declared.reader_state.ReaderState.{ReaderState}
+use Rattle.nl_publish.specs.declared.reader_state.Entry.{Entry}
 use Rattle.nl_publish.specs.Histories.{IsBegun, Known}
-use Rattle.nl_publish.specs.Images.{IsNextEntry, AreNext, absorbed}
+use Rattle.nl_publish.specs.States.{IsNextEntry, AreNext, absorbed}
 use Rattle.nl_publish.specs.Locks.{IsHeld, IsHeldPen, NotedStep}
 use Rattle.nl_publish.proofs.Fronts.{prefix_self, prefix_length, prefix_trans, prefix_whole}
 use Rattle.nl_publish.specs.Facts.Growing.{begun_more, fold-grows, history_more, history_start}
@@ -23,20 +23,20 @@ use Rattle.nl_publish.proofs.Keeping.{fold_whole, fold_book, fold_prefix}
 
 -- ---- entries that follow one another
 
-pub next_start : (i : Image) (es fs : List Entry) → AreNext i (es ++ fs) → AreNext i es
+pub next_start : (i : ReaderState) (es fs : List Entry) → AreNext i (es ++ fs) → AreNext i es
 next_start i [] fs h = tt
 next_start i (e ∷ es) fs h = (h.0, next_start (absorbed i e) es fs h.1)
 
-next_rest : (i : Image) (es fs : List Entry) → AreNext i (es ++ fs) → AreNext (fold absorbed i es) fs
+next_rest : (i : ReaderState) (es fs : List Entry) → AreNext i (es ++ fs) → AreNext (fold absorbed i es) fs
 next_rest i [] fs h = h
 next_rest i (e ∷ es) fs h = next_rest (absorbed i e) es fs h.1
 
-fold_append : (i : Image) (es fs : List Entry)
+fold_append : (i : ReaderState) (es fs : List Entry)
     → fold absorbed i (es ++ fs) ≡ fold absorbed (fold absorbed i es) fs
 fold_append i [] fs = refl
 fold_append i (e ∷ es) fs = fold_append (absorbed i e) es fs
 
-next_more : (i : Image) (es : List Entry) (e : Entry) → AreNext i es → IsNextEntry (fold absorbed i es) e
+next_more : (i : ReaderState) (es : List Entry) (e : Entry) → AreNext i es → IsNextEntry (fold absorbed i es) e
     → AreNext i (es ++ e ∷ [])
 next_more i [] e h n = (n, tt)
 next_more i (x ∷ es) e h n = (h.0, next_more (absorbed i x) es e h.1 n)
@@ -44,35 +44,35 @@ next_more i (x ∷ es) e h n = (h.0, next_more (absorbed i x) es e h.1 n)
 -- ---- the steps
 
 module _ (book : ℕ → Book) (log : ℕ) where
-  module _ (p p' : Image) (us us' ls : List Entry) (noted : Known) (waiting : List Commit) (pen : Shown) where
+  module _ (p p' : ReaderState) (us us' ls : List Entry) (noted : Known) (waiting : List Commit) (pen : Shown) where
     -- publishing keeps the equation
     pub shows : (b : Bool) → MatchBool b ((p' ≡ fold absorbed p us) × (us' ≡ [])) ((p' ≡ p) × (us' ≡ us))
         → IsHeld book log p (us ++ ls) noted waiting pen → IsHeld book log p' (us' ++ ls) noted waiting pen
     shows true is h =
-        subst (λ (q : Image). IsHeld book log q (us' ++ ls) noted waiting pen) (sym is.0)
+        subst (λ (q : ReaderState). IsHeld book log q (us' ++ ls) noted waiting pen) (sym is.0)
         (subst (λ (l : List Entry). IsHeld book log (fold absorbed p us) (l ++ ls) noted waiting pen)
         (sym is.1) (record {
           volume = h.volume;
           book_is = fold_book p us (next_start p us ls h.next) ∙ h.book_is;
           whole = fold_whole p us h.whole (next_start p us ls h.next);
           next = next_rest p us ls h.next;
-          last = h.last ∙ ap (λ (q : Image). q.seen.log) (fold_append p us ls);
+          last = h.last ∙ ap (λ (q : ReaderState). q.seen.log) (fold_append p us ls);
           history = h.history;
           shown_is = h.shown_is;
         }))
     shows false is h =
-        subst (λ (q : Image). IsHeld book log q (us' ++ ls) noted waiting pen) (sym is.0)
+        subst (λ (q : ReaderState). IsHeld book log q (us' ++ ls) noted waiting pen) (sym is.0)
         (subst (λ (l : List Entry). IsHeld book log p (l ++ ls) noted waiting pen) (sym is.1) h)
 
     pub shows_more : (b : Bool) → MatchBool b ((p' ≡ fold absorbed p us) × (us' ≡ [])) ((p' ≡ p) × (us' ≡ us))
         → IsHeld book log p (us ++ ls) noted waiting pen → IsPrefix p.seen.log p'.seen.log
     shows_more true is h =
-        subst (λ (q : Image). IsPrefix p.seen.log q.seen.log) (sym is.0)
+        subst (λ (q : ReaderState). IsPrefix p.seen.log q.seen.log) (sym is.0)
         (fold_prefix p us (next_start p us ls h.next))
     shows_more false is h =
-        subst (λ (q : Image). IsPrefix p.seen.log q.seen.log) (sym is.0) (prefix_self p.seen.log)
+        subst (λ (q : ReaderState). IsPrefix p.seen.log q.seen.log) (sym is.0) (prefix_self p.seen.log)
 
-  module _ (p : Image) (es : List Entry) (noted : Known) where
+  module _ (p : ReaderState) (es : List Entry) (noted : Known) where
     -- an event's commits wait, and the pen is where they lead
     pub runs : (waiting waiting' : List Commit) (old new : Layout) (event : Event) (r : Reply)
         → NotedStep (old, waiting) event r (new, waiting') → IsHeld book log p es noted waiting (shown_of old)
@@ -91,7 +91,7 @@ module _ (book : ℕ → Book) (log : ℕ) where
               (history_more (noted.commits ++ waiting) is.more h.history
               (subst (λ (x : Shown). AllNext x is.more) h.shown_is is.noted.next));
           shown_is =
-              is.noted.image
+              is.noted.state
               ∙ (ap (λ (x : Shown). fold applied x is.more) h.shown_is
               ∙ (sym (fold-grows nothing (noted.commits ++ waiting) is.more) ∙ ap shown_after (sym log_is)));
         }
@@ -124,7 +124,7 @@ module _ (book : ℕ → Book) (log : ℕ) where
           book_is = h.book_is;
           whole = h.whole;
           next = next_more p es e h.next one;
-          last = sym log_is ∙ ap (λ (q : Image). q.seen.log) (sym (fold_append p es (e ∷ [])));
+          last = sym log_is ∙ ap (λ (q : ReaderState). q.seen.log) (sym (fold_append p es (e ∷ [])));
           history = history;
           shown_is = h.shown_is ∙ ap shown_after all;
         }
@@ -198,13 +198,13 @@ pub same_head : {A : Type 0} (xs : List A) (x y : A) → 0 < length xs → x ≡
 same_head [] x y some at bt = absurd (omega (arith, some))
 same_head (z ∷ zs) x y some at bt = at ∙ sym bt
 
--- the same image and the same entries
-pub held_at : (book : ℕ → Book) (log : ℕ) (p p' : Image) (es es' : List Entry) (noted : Known)
+-- the same state and the same entries
+pub held_at : (book : ℕ → Book) (log : ℕ) (p p' : ReaderState) (es es' : List Entry) (noted : Known)
     (waiting : List Commit) (pen : Shown)
     → p' ≡ p → es' ≡ es
     → IsHeld book log p es noted waiting pen → IsHeld book log p' es' noted waiting pen
-held_at book log p p' es es' noted waiting pen image entries h =
-    subst (λ (q : Image). IsHeld book log q es' noted waiting pen) (sym image)
+held_at book log p p' es es' noted waiting pen state entries h =
+    subst (λ (q : ReaderState). IsHeld book log q es' noted waiting pen) (sym state)
     (subst (λ (l : List Entry). IsHeld book log p l noted waiting pen) (sym entries) h)
 
 -- a step that is noted behind what waits is noted behind the whole history

@@ -1,4 +1,4 @@
--- The steps keep the rule of published images.
+-- The steps keep the rule of published states.
 use Rattle.std.proofs.Common.{◌≡◌, ℕ, zero, suc, ◌≢◌, List, [], ◌∷◌, fold, set, refl, subst, ap, sym, ◌∙◌, ⊎_elim, inl, inr}
 use mathlib.Core.Option.{some}
 use mathlib.Core.List.{IsPrefix}
@@ -6,18 +6,18 @@ use lib.ListN.{get_elem?}
 use Rattle.left_right.specs.Register.{Admits, TurnsAt, Forks, Merges}
 use Rattle.atomic_table.proofs.Lists.{at_set, at_snoc}
 use Rattle.logbook.specs.Pages.{Book}
-use Rattle.nl_publish.specs.declared.image.Image.{Image}
-use Rattle.nl_publish.specs.declared.image.Entry.{Entry}
+use Rattle.nl_publish.specs.declared.reader_state.ReaderState.{ReaderState}
+use Rattle.nl_publish.specs.declared.reader_state.Entry.{Entry}
 use Rattle.nl_commit.specs.Shown.{Shown}
 use Rattle.nl_commit.specs.Commits.{applied}
 use Rattle.nl_commit.specs.Commits.{shown_after}
-use Rattle.nl_publish.specs.Images.{Knows, Kept, Looks, Learns, IsWhole, IsNextEntry, AreNext, absorbed, name_of}
+use Rattle.nl_publish.specs.States.{Knows, Kept, Looks, Learns, IsWhole, IsNextEntry, AreNext, absorbed, name_of}
 use Rattle.nl_publish.proofs.Fronts.{prefix_self, prefix_trans}
 use Rattle.nl_publish.specs.Facts.Growing.{fold-grows}
 
 -- ---- absorbing
 
-pub absorbs_whole : (i : Image) (e : Entry) → IsWhole i → IsNextEntry i e → IsWhole (absorbed i e)
+pub absorbs_whole : (i : ReaderState) (e : Entry) → IsWhole i → IsNextEntry i e → IsWhole (absorbed i e)
 absorbs_whole i e w n = record {
   shown =
       ap (λ (x : Shown). applied x e.commit) w.shown
@@ -26,15 +26,15 @@ absorbs_whole i e w n = record {
   history = n.history;
 }
 
-pub fold_whole : (i : Image) (es : List Entry) → IsWhole i → AreNext i es → IsWhole (fold absorbed i es)
+pub fold_whole : (i : ReaderState) (es : List Entry) → IsWhole i → AreNext i es → IsWhole (fold absorbed i es)
 fold_whole i [] w next = w
 fold_whole i (e ∷ es) w next = fold_whole (absorbed i e) es (absorbs_whole i e w next.0) next.1
 
-pub fold_book : (i : Image) (es : List Entry) → AreNext i es → (fold absorbed i es).seen.book ≡ i.seen.book
+pub fold_book : (i : ReaderState) (es : List Entry) → AreNext i es → (fold absorbed i es).seen.book ≡ i.seen.book
 fold_book i [] next = refl
 fold_book i (e ∷ es) next = fold_book (absorbed i e) es next.1 ∙ next.0.book
 
-pub fold_prefix : (i : Image) (es : List Entry) → AreNext i es
+pub fold_prefix : (i : ReaderState) (es : List Entry) → AreNext i es
     → IsPrefix i.seen.log (fold absorbed i es).seen.log
 fold_prefix i [] next = prefix_self i.seen.log
 fold_prefix i (e ∷ es) next =
@@ -49,18 +49,18 @@ admits i views h = record {
   known = λ seat v at. ⊎_elim (h.known seat v) (λ (e : [] ≡ v). inl (sym e)) (at_snoc views [] v seat at);
 }
 
-knows_on : (x y : Image) → y.seen.book ≡ x.seen.book → (v : List ℕ) → Knows v x → Knows v y
+knows_on : (x y : ReaderState) → y.seen.book ≡ x.seen.book → (v : List ℕ) → Knows v x → Knows v y
 knows_on x y same v (inl e) = inl e
 knows_on x y same v (inr e) = inr (e ∙ ap name_of (sym same))
 
-set_keeps : (i : Image) (views : List (List ℕ)) (seat : ℕ) (v : List ℕ) → Knows v i
+set_keeps : (i : ReaderState) (views : List (List ℕ)) (seat : ℕ) (v : List ℕ) → Knows v i
     → ((j : ℕ) (u : List ℕ) → get_elem? views j ≡ some u → Knows u i) → (j : ℕ) (u : List ℕ)
     → get_elem? (set views seat v) j ≡ some u → Knows u i
 set_keeps i views seat v known h j u e =
     ⊎_elim (λ (t : (j ≡ seat) × (v ≡ u)). subst (λ (z : List ℕ). Knows z i) t.1 known)
     (λ (t : (j ≢ seat) × (get_elem? views j ≡ some u)). h j u t.1) (at_set views seat j v u e)
 
-pub turns : (seat : ℕ) (v : List ℕ) (x y : Image) → y.seen.book ≡ x.seen.book → (IsWhole x → IsWhole y)
+pub turns : (seat : ℕ) (v : List ℕ) (x y : ReaderState) → y.seen.book ≡ x.seen.book → (IsWhole x → IsWhole y)
     → TurnsAt Kept seat v x y Looks
 turns seat v x y same ok views h at =
     let known : Knows v y = knows_on x y same v (h.known seat v at) in (
@@ -72,7 +72,7 @@ turns seat v x y same ok views h at =
       (ok h.whole, known, refl),
     )
 
-pub learns : (seat : ℕ) (v : List ℕ) (x y : Image) → y.seen.book ≡ x.seen.book → (IsWhole x → IsWhole y)
+pub learns : (seat : ℕ) (v : List ℕ) (x y : ReaderState) → y.seen.book ≡ x.seen.book → (IsWhole x → IsWhole y)
     → TurnsAt Kept seat v x y Learns
 learns seat v x y same ok views h at = (
   name_of y.seen.book,
@@ -86,17 +86,17 @@ learns seat v x y same ok views h at = (
 )
 
 -- what a publication of entries that follow does
-pub shows : (seat : ℕ) (v : List ℕ) (x next : Image) (es : List Entry) → AreNext x es
+pub shows : (seat : ℕ) (v : List ℕ) (x next : ReaderState) (es : List Entry) → AreNext x es
     → next ≡ fold absorbed x es → TurnsAt Kept seat v x next Looks
 shows seat v x next es are is =
-    turns seat v x next (ap (λ (i : Image). i.seen.book) is ∙ fold_book x es are)
+    turns seat v x next (ap (λ (i : ReaderState). i.seen.book) is ∙ fold_book x es are)
     (λ w. subst IsWhole (sym is) (fold_whole x es w are))
 
-pub names : (seat : ℕ) (v : List ℕ) (x next : Image) (es : List Entry) → es ≡ [] → next ≡ fold absorbed x es
+pub names : (seat : ℕ) (v : List ℕ) (x next : ReaderState) (es : List Entry) → es ≡ [] → next ≡ fold absorbed x es
     → TurnsAt Kept seat v x next Learns
 names seat v x next es none is =
     let same : next ≡ x = is ∙ ap (λ l. fold absorbed x l) none in
-    learns seat v x next (ap (λ (i : Image). i.seen.book) same) (λ w. subst IsWhole (sym same) w)
+    learns seat v x next (ap (λ (i : ReaderState). i.seen.book) same) (λ w. subst IsWhole (sym same) w)
 
 pub forks : (seat : ℕ) (v : List ℕ) → Forks Kept seat v v v
 forks seat v x views h at = record {
@@ -118,8 +118,8 @@ merges seat v other w x views h at apart there =
       known = set_keeps x (set views seat w) other [] (inl refl) (set_keeps x views seat w known h.known);
     }
 
--- a seat that knows a book knows the image's
-pub knows_book : (b : Book) (v : List ℕ) (i : Image) → v ≡ name_of b → Knows v i → i.seen.book ≡ b
+-- a seat that knows a book knows the state's
+pub knows_book : (b : Book) (v : List ℕ) (i : ReaderState) → v ≡ name_of b → Knows v i → i.seen.book ≡ b
 knows_book b v i is (inl e) = absurd (cc (is, e))
 knows_book b v i is (inr e) =
     let all : name_of b ≡ name_of i.seen.book = sym is ∙ e in
@@ -128,7 +128,7 @@ knows_book b v i is (inr e) =
     let three : i.seen.book.cells_name ≡ b.cells_name = cc all in
     λ k. record { number = one k; log_name = two k; cells_name = three k }
 
-pub kept_first : (i : Image) → IsWhole i → Kept i ([] ∷ [])
+pub kept_first : (i : ReaderState) → IsWhole i → Kept i ([] ∷ [])
 kept_first i w = record { whole = w; known = λ seat v at. inl (first_only seat v at) } where
   first_only : (seat : ℕ) (v : List ℕ) → get_elem? ([] ∷ []) seat ≡ some v → v ≡ []
   first_only zero v at = cc at

@@ -12,7 +12,7 @@ use Rattle.nl_commit.specs.declared.commit.Commit.{Commit}
 use Rattle.nl_publish.specs.Histories.{IsBegun}
 use Rattle.nl_publish.specs.Mounts.{Claim, IsClaim}
 
--- an image keeps a checkpoint, whose inodes hold this
+-- a state keeps a checkpoint, whose inodes hold this
 pub record HoldsOn (x : Shown) (n : ℕ) (held : Holding) : Type 0 where
   pub checkpoint : Checkpoint
   pub kept : kept_at n x.table ≡ Some checkpoint

@@ -1,7 +1,7 @@
 pub mod Histories
 pub mod Rules
 pub mod Refusals
-pub mod Images
+pub mod States
 pub mod Seats
 pub mod Noting
 pub mod Locks

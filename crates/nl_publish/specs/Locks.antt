@@ -15,10 +15,10 @@ use Rattle.nl_commit.specs.Layout.{IsPen, Layout}
 use Rattle.nl_commit.specs.Notes.{DoesNoting, shown_of}
 use Rattle.nl_commit.specs.Shown.{Shown}
 use Rattle.nl_commit.specs.declared.commit.Commit.{Commit}
-use Rattle.nl_publish.specs.declared.image.Image.{Image}
-use Rattle.nl_publish.specs.declared.image.Entry.{Entry}
+use Rattle.nl_publish.specs.declared.reader_state.ReaderState.{ReaderState}
+use Rattle.nl_publish.specs.declared.reader_state.Entry.{Entry}
 use Rattle.nl_publish.specs.Histories.{Known}
-use Rattle.nl_publish.specs.Images.{IsWhole, AreNext, absorbed}
+use Rattle.nl_publish.specs.States.{IsWhole, AreNext, absorbed}
 use Rattle.nl_publish.specs.Refusals.{HasRefused}
 
 -- the history that is published, the whole history with what is pending, how many commits at its end the press
@@ -42,13 +42,13 @@ listed (Some x) = x ∷ []
 
 -- What readers see of the pen is what the published and then the pending commits make. `noted` ends the
 -- entries that readers don't see yet.
-pub record IsHeld (book : ℕ → Book) (log : ℕ) (image : Image) (entries : List Entry) (noted : Known)
+pub record IsHeld (book : ℕ → Book) (log : ℕ) (state : ReaderState) (entries : List Entry) (noted : Known)
     (waiting : List Commit) (shown : Shown) : Type 0 where
   pub volume : log ≡ noted.volume
-  pub book_is : image.seen.book ≡ book log
-  pub whole : IsWhole image
-  pub next : AreNext image entries
-  pub last : noted.commits ≡ (fold absorbed image entries).seen.log
+  pub book_is : state.seen.book ≡ book log
+  pub whole : IsWhole state
+  pub next : AreNext state entries
+  pub last : noted.commits ≡ (fold absorbed state entries).seen.log
   pub history : IsHistory (noted.commits ++ waiting)
   pub shown_is : shown ≡ shown_after (noted.commits ++ waiting)
 

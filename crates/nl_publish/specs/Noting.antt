@@ -2,7 +2,7 @@
 use Rattle.std.specs.Prelude.{ℕ, ◌≡◌, ◌++◌, List, [], ◌∷◌, length, Option, None, Some}
 use Rattle.logbook.specs.Pages.{Book}
 use Rattle.nl_commit.specs.declared.commit.Commit.{Commit}
-use Rattle.nl_publish.specs.declared.image.Entry.{Entry}
+use Rattle.nl_publish.specs.declared.reader_state.Entry.{Entry}
 use Rattle.nl_publish.specs.Histories.{Known}
 
 -- the first commit that waited ends what is noted, and is the entry's

@@ -15,15 +15,15 @@ use Rattle.nl_commit.specs.Shown.{Shown, mounted_on, pages_shown}
 use Rattle.nl_commit.specs.declared.commit.Commit.{Commit}
 use Rattle.nl_publish.specs.Locks.{Goes, HeldPen, IsSoundState}
 
--- Who is in an image may read the page under a virtual block number: the image keeps a checkpoint n, and that
--- has the number at a place of its tree. Each mount in an image is of a checkpoint that it keeps.
+-- Who is in a state may read the page under a virtual block number: the state keeps a checkpoint n, and that
+-- has the number at a place of its tree. Each mount in a state is of a checkpoint that it keeps.
 pub record MayRead (x : Shown) (n v : ℕ) : Type 0 where
   pub checkpoint : Checkpoint
   pub kept : kept_at n x.table ≡ Some checkpoint
   pub place : Place
   pub reached : reached_by (pages_shown x) checkpoint place ≡ Some v
 
--- Checkpoint n of an image isn't gone in a later one: it is kept there, or a mount of it is still there.
+-- Checkpoint n of a state isn't gone in a later one: it is kept there, or a mount of it is still there.
 pub data StillHas (x later : Shown) (n : ℕ) : Type 0 where
   IsKept : (c : Checkpoint) → kept_at n later.table ≡ Some c → StillHas x later n
   IsMounted : (m k : ℕ) → mounted_on x m ≡ Some n → mounted_on later m ≡ Some k → StillHas x later n
@@ -40,14 +40,14 @@ pub record Stands (s : Store) (v : ℕ) (page : List ℕ) : Type 0 where
 
 -- ---- the law
 
--- The image has the page itself. While the pen under the lock still has the checkpoint, the page stands on
+-- The state has the page itself. While the pen under the lock still has the checkpoint, the page stands on
 -- the device too.
 pub record IsReadable (x : Shown) (h : HeldPen) (n v : ℕ) : Type 0 where
   pub page : List ℕ
   pub shown : pages_shown x v ≡ Some page
   pub stands : StillHas x (shown_of h.layout) n → Stands h.layout.store v page
 
--- So is each page that a reader may read, in whatever image it is that a beginning of the history makes.
+-- So is each page that a reader may read, in whatever state it is that a beginning of the history makes.
 abbrev pub ReadPagesStand : Type 0
 ReadPagesStand =
     (h : HeldPen) (log : List Commit) (n v : ℕ) → IsSoundState h → IsHistory log → IsPrefix log h.history
@@ -62,7 +62,7 @@ RetirementsSpareReadPages =
     → Goes old (Retire segment ∷ []) (Ok answer ∷ []) new
     → is_inside old.layout.store.segments segment (address_in old.layout.store v) ≡ false
 
--- Each later image has the same page under the number: no commit takes it out, or puts another in its place.
+-- Each later state has the same page under the number: no commit takes it out, or puts another in its place.
 abbrev pub ReadPagesStay : Type 0
 ReadPagesStay =
     (log later : List Commit) (n v : ℕ) → IsHistory log → IsHistory later → IsPrefix log later

@@ -6,7 +6,7 @@ use Rattle.nl_types.specs.Plain.Trees.{Tree}
 use Rattle.nl_types.specs.Plain.Worlds.{Copy, Reply, World, copy_at}
 use Rattle.nl_cpfile.specs.Tables.{kept_at, checkpoint_root}
 use Rattle.nl_cpfile.specs.declared.checkpoint.Checkpoint.{Checkpoint}
-use Rattle.nl_commit.specs.Commits.{IsHistory, IsShownImage, shown_after}
+use Rattle.nl_commit.specs.Commits.{IsHistory, IsShownState, shown_after}
 use Rattle.nl_commit.specs.Layout.{MeansWorld, Runs}
 use Rattle.nl_commit.specs.Means.{RootMeans}
 use Rattle.nl_commit.specs.Notes.{shared}
@@ -22,13 +22,13 @@ pub record TreeOn (x : Shown) (n : ℕ) (t : Tree) : Type 0 where
   pub kept : kept_at n x.table ≡ Some checkpoint
   pub means : RootMeans (pages_shown x) (checkpoint_root checkpoint) t
 
--- the copy of a number in a world is what an image shows under it
+-- the copy of a number in a world is what a state shows under it
 pub record ShowsCopy (x : Shown) (n : ℕ) (w : World) : Type 0 where
   pub copy : Copy
   pub kept : copy_at w n ≡ Some copy
   pub shown : TreeOn x n copy.tree
 
--- an image shows each copy of a world under its number
+-- a state shows each copy of a world under its number
 abbrev pub ShowsWorld : Shown → World → Type 0
 ShowsWorld x w = (n : ℕ) (copy : Copy) → copy_at w n ≡ Some copy → TreeOn x n copy.tree
 
@@ -43,9 +43,9 @@ KeptTreesStay = (log later : List Commit) (n : ℕ) (t : Tree) (c : Checkpoint) 
     → IsPrefix log later → TreeOn (shown_after log) n t → kept_at n (shown_after later).table ≡ Some c
     → TreeOn (shown_after later) n t
 
--- a history shows an image
-abbrev pub HistoriesShowImages : Type 0
-HistoriesShowImages = (log : List Commit) → IsHistory log → IsShownImage (shown_after log)
+-- a history shows a state
+abbrev pub HistoriesShowStates : Type 0
+HistoriesShowStates = (log : List Commit) → IsHistory log → IsShownState (shown_after log)
 
 -- what a mount shows: the checkpoint that it names, with each tree that this had when the mount was told
 pub record ShowsTold (m : Claim) (log : List Commit) (n : ℕ) : Type 0 where

@@ -6,8 +6,8 @@ ghost use Rattle.nl_publish.specs.Noting.{EntryComes, IsNotedEntry};
 ghost use Rattle.nl_publish.specs.Refusals.{HasRefused};
 
 use crate::history::{Front, HistoryLog};
-use crate::image::Entry;
 use crate::protocol::Volumes;
+use crate::reader_state::Entry;
 use nl_commit::Commit;
 
 /// Notes the first commit that waits. Where the history takes no more of them nothing changes, but that this is

@@ -5,11 +5,11 @@ ghost use mathlib.Core.List.{IsPrefix};
 ghost use Rattle.nl_publish.specs.Histories.{IsBegun, IsFull, Known};
 ghost use Rattle.nl_publish.specs.Refusals.{HasRefused};
 ghost use Rattle.nl_publish.specs.Rules.{head_of};
-ghost use Rattle.nl_publish.specs.Images.{IsWhole};
+ghost use Rattle.nl_publish.specs.States.{IsWhole};
 
-use crate::image::Image;
 use crate::press::count_refusal;
 use crate::protocol::{HistoryWord, SeenHistory, Volumes, add_commit, open_book};
+use crate::reader_state::ReaderState;
 use nl_commit::Commit;
 use std::marker::{Model, PhantomData};
 
@@ -111,16 +111,16 @@ impl<J: Volumes> Model for Front<J> {
 }
 
 impl<J: Volumes> Front<J> {
-    /// The history that made an image of the volume's book.
-    pub fn of(image: &Image, volume: u64) -> Front<J>
-        requires book { image.now.seen.book ≡ J.book volume }
-        requires whole { IsWhole image.now }
-        ensures { result ≡ record { volume = volume; commits = image.now.seen.log } }
+    /// The history that made a state of the volume's book.
+    pub fn of(state: &ReaderState, volume: u64) -> Front<J>
+        requires book { state.now.seen.book ≡ J.book volume }
+        requires whole { IsWhole state.now }
+        ensures { result ≡ record { volume = volume; commits = state.now.seen.log } }
     {
         Front {
             volume,
-            count: image.count,
-            seen: image.seen.again(),
+            count: state.count,
+            seen: state.seen.again(),
             of: PhantomData,
         }
     }

@@ -2,11 +2,11 @@
 ghost use Rattle.nl_publish.specs.Cached.{CachedPagesStay};
 ghost use Rattle.nl_publish.specs.KeptHoldings.{KeptHoldingsStay, MountsHold};
 ghost use Rattle.nl_publish.specs.ReadPages.{ReadPagesStand, ReadPagesStay, RetirementsSpareReadPages};
-ghost use Rattle.nl_publish.specs.Told.{HistoriesShowImages, KeptTreesStay, LockedRunsLeadOn, MountsBegin, MountsStay, PublishedWorldsAreShown};
+ghost use Rattle.nl_publish.specs.Told.{HistoriesShowStates, KeptTreesStay, LockedRunsLeadOn, MountsBegin, MountsStay, PublishedWorldsAreShown};
 
-/// In each image every kept checkpoint means a tree, and each mount is of a kept snapshot.
-pub fn histories_show_images()
-    ensures { HistoriesShowImages }
+/// In each state every kept checkpoint means a tree, and each mount is of a kept snapshot.
+pub fn histories_show_states()
+    ensures { HistoriesShowStates }
 {}
 
 /// A mount shows the checkpoint that it names, with the tree that it was told of, until it is given back.
@@ -48,10 +48,10 @@ pub fn locked_runs_lead_on()
     ensures { LockedRunsLeadOn }
 {}
 
-/// No block of a freed segment is reached by what a reader may read. Whatever image of the history a reader is
+/// No block of a freed segment is reached by what a reader may read. Whatever state of the history a reader is
 /// in, that has the pages of its checkpoints itself. While the pen keeps such a checkpoint, or a mount of it
 /// isn't given back, they also stand at blocks of their own, in segments that aren't clean; no retirement frees
-/// one of these; and each later image has the same pages.
+/// one of these; and each later state has the same pages.
 pub fn readers_reach_no_freed_block()
     ensures stand { ReadPagesStand }
     ensures spared { RetirementsSpareReadPages }

@@ -1,29 +1,29 @@
 //! The published states of a shared volume: one legal history of commits, and what lies under the lock, the
-//! writer's pen with the commits that wait. Readers enter an image of what is published.
+//! writer's pen with the commits that wait. Readers enter a state of what is published.
 #![tactic(auto)]
 
 mod cleaning;
 mod entries;
 mod events;
 mod history;
-mod image;
 pub mod laws;
 mod locked;
 mod mount;
 mod opening;
 mod press;
 mod protocol;
+mod reader_state;
 mod tables;
 mod views;
 
 pub use events::is_mount_event;
 pub use history::{Front, HistoryLog, Opened};
-pub use image::{Entry, Image};
 pub use locked::Locked;
 pub use mount::{Gone, Mount, RefusedMount};
 pub use nl_commit::NotingPen;
 pub use opening::{Seat, publish};
 pub use press::{Press, Publisher, count_refusal};
-pub use protocol::{ImageReader, ImageReading, SeeImage, Volumes};
+pub use protocol::{SeeState, StateReader, StateReading, Volumes};
+pub use reader_state::{Entry, ReaderState};
 pub use tables::{ApplyError, ReaderTables};
 pub use views::SegmentView;

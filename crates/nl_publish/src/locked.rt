@@ -7,7 +7,7 @@ ghost use Rattle.nl_commit.specs.Commits.{shown_after};
 ghost use Rattle.nl_commit.specs.Layout.{IsPen, MeansWorld, ReadsCopy, layout_of};
 ghost use Rattle.nl_commit.specs.Notes.{shown_of};
 ghost use Rattle.nl_commit.specs.Volume.{without_mounts};
-ghost use Rattle.nl_publish.specs.Images.{IsPublished, IsWhole};
+ghost use Rattle.nl_publish.specs.States.{IsPublished, IsWhole};
 ghost use Rattle.nl_publish.specs.Locks.{Begins, Finished, GoesBy, IsNoMountEvent, IsSoundState, IsHeldPen, IsTried, StaysHeld, LostComesBack, MountGoes, MountRan, Ran, told_by};
 ghost use Rattle.nl_publish.specs.Refusals.{HasRefused};
 ghost use Rattle.nl_publish.specs.Returns.{IsGivenBack, UnmountRan};
@@ -15,10 +15,10 @@ ghost use Rattle.nl_publish.specs.Told.{ShowsCopy};
 
 use crate::entries::next_entry;
 use crate::history::{Front, HistoryLog};
-use crate::image::Entry;
 use crate::mount::{Gone, Mount, RefusedMount};
 use crate::press::{Press, Publisher};
 use crate::protocol::Volumes;
+use crate::reader_state::Entry;
 use nl_calls::{mount_made, without_answer};
 use nl_commit::{Commit, NotingPen};
 use nl_types::{Answer, Ask, CheckpointNumber, Event, MountNumber, Reply, VolError};
@@ -126,7 +126,7 @@ impl<P: NotingPen, J: Volumes, W: Press> Locked<P, J, W> {
         if !self.waiting.as_slice().is_empty() {
             return false;
         }
-        self.writer.image().count == self.noted.len()
+        self.writer.state().count == self.noted.len()
     }
 
     /// Hands all that waits to the writer, and says whether it did.
@@ -349,7 +349,7 @@ impl<P: NotingPen, J: Volumes, W: Press> Locked<P, J, W> {
     pub fn told(&self) -> Front<J>
         ensures { result ≡ told_by self.now }
     {
-        Front::of(self.writer.image(), self.noted.volume())
+        Front::of(self.writer.state(), self.noted.volume())
     }
 
     /// Mounts a checkpoint. The mount is told of the history that ends with its own commit, all of which is

@@ -2,16 +2,16 @@
 ghost use Rattle.std.specs.Prelude.{◌≡◌, ◌<◌, ◌^◌, ◌∷◌, [], All, drop, length, IfErr, IfOk};
 ghost use Rattle.nl_commit.specs.Commits.{IsHistory, shown_after};
 ghost use Rattle.nl_publish.specs.Begun.{HasBegun};
-ghost use Rattle.nl_publish.specs.Images.{IsPublished, name_of};
+ghost use Rattle.nl_publish.specs.States.{IsPublished, name_of};
 ghost use Rattle.nl_publish.specs.Locks.{told_by};
 ghost use Rattle.nl_commit.specs.Shown.{MountsRise};
 ghost use Rattle.nl_publish.specs.Seats.{known_to};
 
 use crate::history::{Front, HistoryLog, Opened};
-use crate::image::Image;
 use crate::locked::Locked;
 use crate::press::{NamedWriter, Press, Publisher, open};
-use crate::protocol::{ImageReader, Volumes};
+use crate::protocol::{StateReader, Volumes};
+use crate::reader_state::ReaderState;
 use nl_commit::{Commit, NotingPen};
 use nl_types::VolError;
 use std::alloc::{AllocError, Global};
@@ -20,7 +20,7 @@ use std::sync::Wait;
 /// A reader's seat, and what it has seen of the volume's history, whose book the reader knows.
 #[derive(Drop)]
 pub struct Seat<J: Volumes> {
-    pub reader: ImageReader,
+    pub reader: StateReader,
     pub front: Front<J>,
     pub ghost known: { known_to reader.place ≡ name_of (J.book front.volume) },
 }
@@ -50,7 +50,7 @@ fn take_seats<J: Volumes>(
     Ok(seats)
 }
 
-/// A writer that shows the first image, and a seat for each reader.
+/// A writer that shows the first state, and a seat for each reader.
 pub fn publish<J: Volumes, R: Wait>(
     alloc: Global,
     rt: &R,
@@ -68,7 +68,7 @@ pub fn publish<J: Volumes, R: Wait>(
     ensures seats { IfOk result (λ made. length made.1.items ≡ readers) }
     ensures fronts { IfOk result (λ made. All (λ s. s.front ≡ front.now) made.1.items) }
 {
-    let first = Image::first(alloc, commit, front)?;
+    let first = ReaderState::first(alloc, commit, front)?;
     let second = first.again(alloc, commit)?;
     let mut named = open(alloc, rt, first, second, readers)?;
     let Ok(seats) = take_seats(alloc, &mut named, front, readers) else {

@@ -2,10 +2,10 @@
 ghost use Rattle.std.specs.Prelude.{◌≡◌, ◌<◌, ◌^◌, ◌++◌, ◌∷◌, [], List, fold, drop, IfOk, MatchBool, MatchResult};
 ghost use Rattle.nl_publish.specs.Refusals.{HasRefused};
 ghost use Rattle.left_right.specs.Sides.{view};
-ghost use Rattle.nl_publish.specs.Images.{AreNext, HasShown, IsWhole, name_of};
+ghost use Rattle.nl_publish.specs.States.{AreNext, HasShown, IsWhole, name_of};
 
-use crate::image::{Entry, Image};
-use crate::protocol::{ImageReader, ImageWriter, LearnBook, NoteBook, SeeImage};
+use crate::protocol::{LearnBook, NoteBook, SeeState, StateReader, StateWriter};
+use crate::reader_state::{Entry, ReaderState};
 use core::mem::replace_with;
 use left_right::writer::Writer;
 use std::alloc::{AllocError, Global};
@@ -21,14 +21,14 @@ pub fn count_refusal(refusals: u64) -> u64
     refusals + 1
 }
 
-/// What shows images to readers, one entry behind the other. It counts what it refuses.
+/// What shows states to readers, one entry behind the other. It counts what it refuses.
 pub trait Press {
     ghost use Rattle.std.specs.Prelude.{ℕ, List};
-    ghost use Rattle.nl_publish.specs.declared.image.Image.{Image};
-    ghost use Rattle.nl_publish.specs.declared.image.Entry.{Entry};
+    ghost use Rattle.nl_publish.specs.declared.reader_state.ReaderState.{ReaderState};
+    ghost use Rattle.nl_publish.specs.declared.reader_state.Entry.{Entry};
 
-    /// The image that readers see.
-    ghost shown: { Self → Image };
+    /// The state that readers see.
+    ghost shown: { Self → ReaderState };
 
     /// What they do not see yet.
     ghost unseen: { Self → List Entry };
@@ -52,23 +52,23 @@ pub trait Press {
         ensures counted { MatchBool result (refusals self.new ≡ refusals self.old)
             (HasRefused (refusals self.old) (refusals self.new)) };
 
-    /// The image that readers see.
-    fn image(&self) -> &Image
+    /// The state that readers see.
+    fn state(&self) -> &ReaderState
         ensures { result.now ≡ shown self.now };
 }
 
-fn show_all<R: Wait>(writer: ImageWriter, rt: &R) -> (ImageWriter, bool)
+fn show_all<R: Wait>(writer: StateWriter, rt: &R) -> (StateWriter, bool)
     requires { AreNext writer.desk.shown.value (drop writer.behind writer.log.items) }
     ensures { HasShown result.1 writer.desk.shown.value (drop writer.behind writer.log.items)
         result.0.desk.shown.value (drop result.0.behind result.0.log.items) }
 {
-    let (writer, shown) = writer.publish_as::<SeeImage, R>(rt);
+    let (writer, shown) = writer.publish_as::<SeeState, R>(rt);
     (writer, shown.is_ok())
 }
 
-/// The writer of two copies of the image, of which readers see one.
+/// The writer of two copies of the state, of which readers see one.
 pub struct Publisher {
-    writer: ImageWriter,
+    writer: StateWriter,
     refusals: u64,
 }
 
@@ -99,7 +99,7 @@ impl Press for Publisher {
         false
     }
 
-    fn image(&self) -> &Image {
+    fn state(&self) -> &ReaderState {
         self.writer.published()
     }
 }
@@ -115,18 +115,18 @@ impl Publisher {
     }
 }
 
-/// A writer that shows an image, and that knows its book.
+/// A writer that shows a state, and that knows its book.
 pub struct NamedWriter {
-    writer: ImageWriter,
+    writer: StateWriter,
     pub ghost known: { view writer.desk.place ≡ name_of writer.desk.shown.value.seen.book },
 }
 
-/// A writer with places for so many readers, which learns by a first publication which book its image is of.
+/// A writer with places for so many readers, which learns by a first publication which book its state is of.
 pub fn open<R: Wait>(
     alloc: Global,
     rt: &R,
-    first: Image,
-    second: Image,
+    first: ReaderState,
+    second: ReaderState,
     readers: usize,
 ) -> Result<NamedWriter, AllocError>
     requires readers { (0 < readers) × (readers < 2 ^ 32) }
@@ -135,7 +135,7 @@ pub fn open<R: Wait>(
     ensures shown { IfOk result (λ n. n.writer.desk.shown.value ≡ first) }
     ensures unseen { IfOk result (λ n. drop n.writer.behind n.writer.log.items ≡ []) }
 {
-    let writer: ImageWriter = Writer::new(alloc, first, second, readers)?;
+    let writer: StateWriter = Writer::new(alloc, first, second, readers)?;
     let (writer, shown) = writer.publish_as::<LearnBook, R>(rt);
     if shown.is_err() {
         writer.take(rt);
@@ -145,8 +145,8 @@ pub fn open<R: Wait>(
 }
 
 impl NamedWriter {
-    /// A reader that knows the image's book.
-    pub fn seat(&mut self) -> Result<ImageReader, AllocError>
+    /// A reader that knows the state's book.
+    pub fn seat(&mut self) -> Result<StateReader, AllocError>
         ensures told { IfOk result (λ r.
             view r.place ≡ name_of self.old.writer.desk.shown.value.seen.book) }
         ensures shown { self.new.writer.desk.shown ≡ self.old.writer.desk.shown }

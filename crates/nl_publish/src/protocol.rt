@@ -1,9 +1,9 @@
 //! The rule by which a reader knows what it reads, and the marks that tell the kit of it.
 //!
-//! **The rule.** The history of a volume is a list of commits that only grows. Readers see an image, and its
+//! **The rule.** The history of a volume is a list of commits that only grows. Readers see a state, and its
 //! tables are what a beginning of the history makes. Of the history nothing is in memory but its length, one
-//! atomic word: the commits are in proofs alone, in a book (`logbook`). So whoever knows of which book an image
-//! is, and which beginning of it made the image, knows what the image shows.
+//! atomic word: the commits are in proofs alone, in a book (`logbook`). So whoever knows of which book a state
+//! is, and which beginning of it made the state, knows what the state shows.
 //!
 //! ```text
 //!   the writer, under the lock                          readers, beside it
@@ -20,7 +20,7 @@
 //!     |                                                   |
 //!     | 3. show                                           |
 //!     v                                                   |
-//!   Image   the copy that no reader sees   <-- swap -->   Image   the copy that readers see
+//!   ReaderState  a copy that no reader sees  <-- swap -->  ReaderState  the copy that readers see
 //! ```
 //!
 //! **The three steps**, each of which keeps what is said here:
@@ -29,27 +29,27 @@
 //!    book gets the commit (`AddCommit`), by its rule (`HistoryRule`): the word is the length.
 //! 2. *Hand over.* The commit goes to the press as an `Entry`, with the history that ends with it.
 //! 3. *Show.* The press applies the entries to the copy that no reader sees, and swaps the two. It waits for
-//!    readers who are still in the older one. Each copy that can be seen keeps the rule of images (`ImageRule`):
+//!    readers who are still in the older one. Each copy that can be seen keeps the rule of states (`StateRule`):
 //!    it is what its own history makes.
 //!
 //! **Who holds which token, and why.** Tokens have no bytes.
 //!
 //! - The word is the writer's, in its `HistoryLog`. It is the only way to add to the book.
-//! - Fronts, entries and images have a `SeenHistory`: the book has had this beginning. It may be copied, and it
+//! - Fronts, entries and states have a `SeenHistory`: the book has had this beginning. It may be copied, and it
 //!   stays true, since a book only grows. Of two beginnings of one book the shorter begins the longer, so two
 //!   lengths tell which is which (`Front::covers`).
-//! - The writer and each reader have a seat at the image, and what a seat knows is a `BookName`. It is there
-//!   because the type of an image doesn't say of which book it is: who knows the book sees images of this one
-//!   alone (`SeeImage`). The writer learns it by its first publication (`LearnBook`), and each reader is told it
+//! - The writer and each reader have a seat at the state, and what a seat knows is a `BookName`. It is there
+//!   because the type of a state doesn't say of which book it is: who knows the book sees states of this one
+//!   alone (`SeeState`). The writer learns it by its first publication (`LearnBook`), and each reader is told it
 //!   by the writer before anything else (`NoteBook`).
 //!
 //! Which book is that of a volume's id is said by `Volumes`. The rules are defined in `specs/Rules.antt` and
-//! `specs/Images.antt`.
+//! `specs/States.antt`.
 ghost use Rattle.std.specs.Prelude.{◌≡◌, ◌==◌, ◌<◌, ◌^◌, ◌++◌, ◌∷◌, [], length, MatchBool};
 ghost use Rattle.nl_publish.specs.Histories.{IsBegun};
 ghost use Rattle.nl_publish.specs.Rules.{head_of};
 
-use crate::image::{Entry, Image};
+use crate::reader_state::{Entry, ReaderState};
 use atomic_table::{Join, Split};
 use crossbeam_utils::rule::{Outcome, Protocol};
 use left_right::reader::{Reader, Reading};
@@ -160,29 +160,29 @@ pub(crate) fn add_commit(
     head.compare_exchange::<AddCommit, NoGain>(count, count + 1, seen, &mut offer, &mut pen)
 }
 
-// ---- the two copies of an image
+// ---- the two copies of a state
 
 /// What a seat knows of the book: nothing, or which one it is. No value of it is made.
 pub type BookName = [u64; 0];
 
-/// The rule of an image: it is what its history makes, which is legal, and each seat knows nothing, or the
-/// image's book.
-pub struct ImageRule;
+/// The rule of a state: it is what its history makes, which is legal, and each seat knows nothing, or the
+/// state's book.
+pub struct StateRule;
 
-impl Protocol<Image, BookName> for ImageRule {
+impl Protocol<ReaderState, BookName> for StateRule {
     ghost use Rattle.std.specs.Prelude.{[]};
-    ghost use Rattle.nl_publish.specs.Images.{Kept};
+    ghost use Rattle.nl_publish.specs.States.{Kept};
 
     ghost holds = { Kept };
 
     ghost first = { [] };
 }
 
-/// A look at the image, or a publication.
-pub struct SeeImage;
+/// A look at the state, or a publication.
+pub struct SeeState;
 
-impl Outcome<Image, BookName> for SeeImage {
-    ghost use Rattle.nl_publish.specs.Images.{Looks};
+impl Outcome<ReaderState, BookName> for SeeState {
+    ghost use Rattle.nl_publish.specs.States.{Looks};
 
     ghost then = { Looks };
 }
@@ -190,8 +190,8 @@ impl Outcome<Image, BookName> for SeeImage {
 /// The first publication, by which the writer learns the book.
 pub struct LearnBook;
 
-impl Outcome<Image, BookName> for LearnBook {
-    ghost use Rattle.nl_publish.specs.Images.{Learns};
+impl Outcome<ReaderState, BookName> for LearnBook {
+    ghost use Rattle.nl_publish.specs.States.{Learns};
 
     ghost then = { Learns };
 }
@@ -214,10 +214,10 @@ impl Join<BookName> for NoteBook {
 }
 
 /// The writer of the two copies.
-pub(crate) type ImageWriter = Writer<Image, Entry, BookName, ImageRule>;
+pub(crate) type StateWriter = Writer<ReaderState, Entry, BookName, StateRule>;
 
-/// A reader outside of the image.
-pub type ImageReader = Reader<Image, BookName, ImageRule>;
+/// A reader outside of the state.
+pub type StateReader = Reader<ReaderState, BookName, StateRule>;
 
-/// A reader inside of the image.
-pub type ImageReading = Reading<Image, BookName, ImageRule>;
+/// A reader inside of the state.
+pub type StateReading = Reading<ReaderState, BookName, StateRule>;

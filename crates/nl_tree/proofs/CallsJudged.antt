@@ -8,8 +8,8 @@ use Rattle.nl_types.specs.declared.error.VolError.TheVariants.{BadPath, Exists, 
 use Rattle.nl_types.specs.declared.kind.Kind.TheVariants as kind
 use Rattle.nl_types.specs.declared.reply.Answer.{Answer}
 use Rattle.nl_types.specs.declared.reply.Answer.TheVariants as answer
-use Rattle.nl_types.specs.declared.reply.Node.{Node}
-use Rattle.nl_types.specs.declared.reply.Node.TheVariants.{Dir}
+use Rattle.nl_types.specs.declared.reply.Object.{Object}
+use Rattle.nl_types.specs.declared.reply.Object.TheVariants.{Dir}
 use Rattle.nl_types.specs.Plain.Limits.{path_limit}
 use Rattle.nl_types.specs.Plain.Paths.{Name, Path}
 use Rattle.nl_types.specs.Plain.Trees.{Tree, insert, lookup, remove}
@@ -95,23 +95,23 @@ module _ (holding : Holding) (tree : Tree) (means : MeansTree (inodes_of_holding
 
   -- ---- create
 
-  create_judged : (node : Node) (path dir : Path) (name : Name) (judged : Result ℕ VolError)
+  create_judged : (object : Object) (path dir : Path) (name : Name) (judged : Result ℕ VolError)
       → path ≡ dir ++ name ∷ [] → judge_create inodes (length tree) dir name ≡ judged
-      → create tree node path ≡ and_then judged (λ _. Ok (answer.Done, insert tree (dir ++ name ∷ []) node))
-  create_judged node path dir name judged is e =
-      ap (create tree node) is
-      ∙ (creates_are_judged inodes tree means node dir name
+      → create tree object path ≡ and_then judged (λ _. Ok (answer.Done, insert tree (dir ++ name ∷ []) object))
+  create_judged object path dir name judged is e =
+      ap (create tree object) is
+      ∙ (creates_are_judged inodes tree means object dir name
       ∙ ap (λ (r : Result ℕ VolError).
-      and_then {B = Answer × Tree} r (λ _. Ok (answer.Done, insert tree (dir ++ name ∷ []) node)))
+      and_then {B = Answer × Tree} r (λ _. Ok (answer.Done, insert tree (dir ++ name ∷ []) object)))
       e)
 
-  pub create-root : (node : Node) → create tree node [] ≡ Err Exists
-  create-root node = let root : lookup tree [] ≡ Some Dir = means.rooted.root in rw root refl
+  pub create-root : (object : Object) → create tree object [] ≡ Err Exists
+  create-root object = let root : lookup tree [] ≡ Some Dir = means.rooted.root in rw root refl
 
-  pub create-refused : (node : Node) (path : Path) (e : VolError) → IsPlaceRefused holding path e
-      → create tree node path ≡ Err e
-  create-refused node path e refusal =
-      create_judged node path refusal.dir refusal.name (Err e) refusal.is_path
+  pub create-refused : (object : Object) (path : Path) (e : VolError) → IsPlaceRefused holding path e
+      → create tree object path ≡ Err e
+  create-refused object path e refusal =
+      create_judged object path refusal.dir refusal.name (Err e) refusal.is_path
       (refused_there (resolve inodes refusal.dir) _ e refusal.refused)
 
   judged_place : (paths : ℕ) (path : Path) (directory : ℕ) (name : Name) (link : Option Link)
@@ -130,11 +130,11 @@ module _ (holding : Holding) (tree : Tree) (means : MeansTree (inodes_of_holding
       refuse_if (is_some o) Exists (refuse_if (nat_lt path_limit paths) TooBig (Ok directory)))
       place.named.has
 
-  pub create-exists : (node : Node) (path : Path) (directory : ℕ) (name : Name) (link : Link)
+  pub create-exists : (object : Object) (path : Path) (directory : ℕ) (name : Name) (link : Link)
       → IsPlaceOf holding path directory name (Some link)
-      → create tree node path ≡ Err Exists
-  create-exists node path directory name link place =
-      create_judged node path place.dir name (Err Exists) place.is_path
+      → create tree object path ≡ Err Exists
+  create-exists object path directory name link place =
+      create_judged object path place.dir name (Err Exists) place.is_path
       (judged_place (length tree) path directory name (Some link) place)
 
   pub judged-free : (path : Path) (directory : ℕ) (name : Name)
@@ -155,23 +155,23 @@ module _ (holding : Holding) (tree : Tree) (means : MeansTree (inodes_of_holding
       mapped (Some held) some = refl
       mapped None some = absurd cc
 
-  create-full : (node : Node) (path : Path) (directory : ℕ) (name : Name) (names : ℕ)
+  create-full : (object : Object) (path : Path) (directory : ℕ) (name : Name) (names : ℕ)
       → IsPlaceOf holding path directory name None
-      → length tree ≡ names + 1 → IsFullOf names holding → create tree node path ≡ Err TooBig
-  create-full node path directory name names place count full =
-      create_judged node path place.dir name (Err TooBig) place.is_path
+      → length tree ≡ names + 1 → IsFullOf names holding → create tree object path ≡ Err TooBig
+  create-full object path directory name names place count full =
+      create_judged object path place.dir name (Err TooBig) place.is_path
       (judged_place (length tree) path directory name None place
       ∙ ap (λ (b : Bool). refuse_if b TooBig (Ok directory))
       (lt-ltb path_limit (length tree) (full_of names count full)))
 
   -- what the current tree refuses to make
-  pub create-not_made : (node : Node) (path : Path) (directory : ℕ) (name : Name) (names : ℕ) (e : VolError)
+  pub create-not_made : (object : Object) (path : Path) (directory : ℕ) (name : Name) (names : ℕ) (e : VolError)
       → IsPlaceOf holding path directory name None
       → length tree ≡ names + 1 → IsCreateRefused names holding e → (e ≡ Memory → ⊥)
-      → create tree node path ≡ Err e
-  create-not_made node path directory name names e place count (inl memory) other = absurd (other memory)
-  create-not_made node path directory name names e place count (inr full) other =
-      create-full node path directory name names place count full.1
+      → create tree object path ≡ Err e
+  create-not_made object path directory name names e place count (inl memory) other = absurd (other memory)
+  create-not_made object path directory name names e place count (inr full) other =
+      create-full object path directory name names place count full.1
       ∙ ap (λ (x : VolError). Err x) (sym full.0)
 
   -- ---- unlink

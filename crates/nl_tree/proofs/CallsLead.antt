@@ -12,7 +12,7 @@ use Rattle.nl_types.specs.Plain.Trees.{Tree}
 use Rattle.nl_types.specs.Blocks.Roots.{Blocks}
 use Rattle.nl_types.specs.Plain.Calls.{Changed, create, write, truncate, unlink, rmdir, rename, overwritten, resized}
 use Rattle.nl_types.specs.Inodes.{Link, Inodes, MeansTree}
-use Rattle.nl_types.specs.declared.reply.Node.TheVariants.{Dir}
+use Rattle.nl_types.specs.declared.reply.Object.TheVariants.{Dir}
 use Rattle.nl_types.specs.InodeChanges.{Refills}
 use Rattle.nl_types.specs.Judging.{Listing, IsListing, bytes_of, has_any, judge_create, judge_rename}
 use Rattle.nl_types.specs.Resolving.{IsNamed, resolve}
@@ -20,7 +20,7 @@ use Rattle.nl_types.specs.InodeCallLaws.{LeadsTo}
 use Rattle.nl_types.specs.Facts.Inodes.CallsDone.{creates_lead, writes_lead, truncates_lead, unlinks_lead, rmdirs_lead, renames_lead, renames_onto_lead}
 use Rattle.nl_dirs.specs.declared.record.Record.{Record}
 use Rattle.nl_dirs.specs.Records.{NamesAscend}
-use Rattle.nl_tree.specs.Held.{Held, Holding, Stored, Listed, bytes_stored, inode_content, inodes_of_holding, new_node}
+use Rattle.nl_tree.specs.Held.{Held, Holding, Stored, Listed, bytes_stored, inode_content, inodes_of_holding, new_object}
 use Rattle.nl_tree.specs.Steps.{with_held, with_link, with_new_inode, without_inode, without_link}
 use Rattle.nl_tree.specs.Bytes.{Overwrites, Resizes}
 use Rattle.nl_tree.specs.TreeMeaning.{StandsForTree, MakesTree}
@@ -44,15 +44,15 @@ module _ (holding : Holding) (tree : Tree) (names : ℕ) (stands : StandsForTree
   pub created_makes : (k : Kind) (dir : Path) (name : Name) (parent inode : ℕ) (records : List Record)
       → judge_create (inodes_of_holding holding) (length tree) dir name ≡ Ok parent
       → holding parent ≡ Some (Listed records) → holding inode ≡ None
-      → MakesTree (create tree (new_node k) (dir ++ name ∷ [])) answer.Done
+      → MakesTree (create tree (new_object k) (dir ++ name ∷ [])) answer.Done
       (with_new_inode parent records name k inode holding) (names + 1)
   created_makes k dir name parent inode records judged here free =
-      makes (create tree (new_node k) (dir ++ name ∷ [])) answer.Done
+      makes (create tree (new_object k) (dir ++ name ∷ [])) answer.Done
       (with_new_inode parent records name k inode holding) (names + 1) (length tree + 1)
       (ap (λ (n : ℕ). n + 1) stands.count)
       (creates_lead (inodes_of_holding holding)
       (inodes_of_holding (with_new_inode parent records name k inode holding)) tree
-      (new_node k) dir name parent inode stands.means judged
+      (new_object k) dir name parent inode stands.means judged
       (adds holding parent records here (record { name = name; inode = inode; kind = k }) free))
 
   -- a file's inode has its bytes

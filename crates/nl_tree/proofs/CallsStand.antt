@@ -15,7 +15,7 @@ use Rattle.nl_types.specs.Inodes.{Link}
 use Rattle.nl_dirs.specs.declared.record.Record.{Record}
 use Rattle.nl_tree.specs.Became.{Current, holding_over}
 use Rattle.nl_tree.specs.CurrentTrees.{AnswersCall, HasRemoved, LeavesTree, StandsOver}
-use Rattle.nl_tree.specs.Held.{Held, Holding, IsHolding, Listed, held_count, new_held, new_node}
+use Rattle.nl_tree.specs.Held.{Held, Holding, IsHolding, Listed, held_count, new_held, new_object}
 use Rattle.nl_tree.specs.Naming.{IsPlaceOf, listing_of}
 use Rattle.nl_tree.specs.Numbers.{CountsFree}
 use Rattle.nl_tree.specs.Private.PathParts.{parts_of, path_behind}
@@ -85,13 +85,13 @@ module _ (old : Current) (base : Holding) (tree : Tree) (is : StandsOver old bas
       → held directory ≡ Some (Listed records)
       → IsCreated held (holding_over new.became base) directory records name k inode → CountsFree new base
       → new.names ≡ old.names + 1 → new.names ≤ 524277
-      → LeavesTree (create tree (new_node k) path) answer.Done new base
+      → LeavesTree (create tree (new_object k) path) answer.Done new base
   created-leads k path directory name records inode new place named here created counts count few =
       let r : Record = record { name = name; inode = inode; kind = k } in
       let made : Holding = with_new_inode directory records name k inode held in
       let room : length tree ≤ 524277 = omega (arith, is.stands.count, count, few) in
-      let makes : MakesTree (create tree (new_node k) path) answer.Done made (old.names + 1) =
-      subst (λ (p : Path). MakesTree (create tree (new_node k) p) answer.Done made (old.names + 1))
+      let makes : MakesTree (create tree (new_object k) path) answer.Done made (old.names + 1) =
+      subst (λ (p : Path). MakesTree (create tree (new_object k) p) answer.Done made (old.names + 1))
       (sym place.is_path)
       (created_makes held tree old.names is.stands k place.dir name directory inode records
       (judged-free held tree is.stands.means path directory name place room) here created.lowest.free) in
@@ -101,7 +101,7 @@ module _ (old : Current) (base : Holding) (tree : Tree) (is : StandsOver old bas
       (ascend-with r records (is.sound.each directory (Listed records) here).ascending) in
       let fits : length (with_record r records) ≤ 524277 =
       omega (arith, fewer, makes.stands.count, count, few) in
-      leads-as (create tree (new_node k) path) answer.Done made (old.names + 1) new base makes
+      leads-as (create tree (new_object k) path) answer.Done made (old.names + 1) new base makes
       (new_inode-may held is.sound directory records r here
       (named, inr (created.lowest.first, created.lowest.last)) fits)
       (λ j. λ i. created.adds i j) count counts few

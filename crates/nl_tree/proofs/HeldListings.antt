@@ -5,10 +5,10 @@ use Rattle.std.specs.List.{cons_option}
 use Rattle.std.specs.Option.{option_map}
 use Rattle.std.proofs.lemmas.List.{length-map}
 use Rattle.nl_types.specs.declared.kind.Kind.{Kind}
-use Rattle.nl_types.specs.declared.reply.Node.{Node}
-use Rattle.nl_types.specs.declared.reply.Node.TheVariants.{Dir}
+use Rattle.nl_types.specs.declared.reply.Object.{Object}
+use Rattle.nl_types.specs.declared.reply.Object.TheVariants.{Dir}
 use Rattle.nl_types.specs.Plain.Paths.{Name, Path}
-use Rattle.nl_types.specs.Plain.Trees.{Tree, lookup, children, name_below, node_kind}
+use Rattle.nl_types.specs.Plain.Trees.{Tree, lookup, children, name_below, object_kind}
 use Rattle.nl_types.specs.Inodes.{Records, MeansTree}
 use Rattle.nl_types.specs.InodeChanges.{HasRecords}
 use Rattle.nl_types.specs.InodeLaws.{with_kind}
@@ -22,8 +22,8 @@ use Rattle.nl_tree.specs.Facts.HeldContents.{lists_records}
 
 -- ---- how many names there are
 
-abbrev child : Path → Path × Node → Option (Name × Kind)
-child dir e = option_map (λ name. (name, node_kind e.1)) (name_below dir e.0)
+abbrev child : Path → Path × Object → Option (Name × Kind)
+child dir e = option_map (λ name. (name, object_kind e.1)) (name_below dir e.0)
 
 children-fewer : (tree : Tree) (dir : Path) → length (children tree dir) ≤ length tree
 children-fewer [] dir = omega arith
@@ -43,7 +43,7 @@ pub children-few : (tree : Tree) (dir : Path) → lookup tree [] ≡ Some Dir
     → length (children tree dir) + 1 ≤ length tree
 children-few [] dir root = cc
 children-few (([], x) ∷ tree) dir root =
-    let none : child dir ([], x) ≡ None = ap (option_map (λ name. (name, node_kind x))) (root_below dir) in
+    let none : child dir ([], x) ≡ None = ap (option_map (λ name. (name, object_kind x))) (root_below dir) in
     rw none (omega (arith, children-fewer tree dir))
 children-few ((n ∷ p, x) ∷ tree) dir root = choose (child dir (n ∷ p, x)) refl (children-few tree dir root)
   where

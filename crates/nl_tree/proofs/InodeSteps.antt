@@ -6,14 +6,14 @@ use Rattle.nl_types.specs.Plain.Paths.{Name, same_name}
 use Rattle.nl_types.specs.Blocks.Roots.{Blocks}
 use Rattle.nl_types.specs.declared.kind.Kind.{Kind}
 use Rattle.nl_types.specs.declared.kind.Kind.TheVariants as kind
-use Rattle.nl_types.specs.Plain.Trees.{node_kind}
+use Rattle.nl_types.specs.Plain.Trees.{object_kind}
 use Rattle.nl_types.specs.Inodes.{Link, InodeContent}
 use Rattle.nl_types.specs.InodeChanges.{HoldsChanged, put_record, move_record, fresh_content, Adds, Refills, Drops, Moves, MovesOnto}
 use Rattle.nl_types.specs.Facts.Inodes.Recording.{put_record-there, put_record-name, holds_same, holds_both}
 use Rattle.nl_types.specs.Facts.Inodes.Ways.{name_cases}
 use Rattle.nl_dirs.specs.declared.record.Record.{Record}
 use Rattle.nl_dirs.specs.Records.{NamesAscend, entry_of}
-use Rattle.nl_tree.specs.Held.{Held, Holding, Stored, Listed, bytes_stored, inode_content, inodes_of_holding, new_held, new_node}
+use Rattle.nl_tree.specs.Held.{Held, Holding, Stored, Listed, bytes_stored, inode_content, inodes_of_holding, new_held, new_object}
 use Rattle.nl_tree.specs.Records.{with_record, without_record}
 use Rattle.nl_tree.specs.Steps.{with_held, with_link, without_link, with_new_inode, without_inode}
 use Rattle.nl_tree.proofs.RecordSteps.{said, entry_of-with, entry_of-without}
@@ -129,20 +129,20 @@ held_here inode held holding =
 
 -- ---- the steps
 
-fresh : (k : Kind) → inode_content (new_held k) ≡ fresh_content (new_node k)
+fresh : (k : Kind) → inode_content (new_held k) ≡ fresh_content (new_object k)
 fresh kind.File = refl
 fresh kind.Directory = refl
 
-node_is : (k : Kind) → node_kind (new_node k) ≡ k
-node_is kind.File = refl
-node_is kind.Directory = refl
+object_is : (k : Kind) → object_kind (new_object k) ≡ k
+object_is kind.File = refl
+object_is kind.Directory = refl
 
 module _ (holding : Holding) (dir : ℕ) (records : List Record)
     (here : holding dir ≡ Some (Listed records)) where
   pub adds : (r : Record) → holding r.inode ≡ None
       → Adds (inodes_of_holding holding)
       (inodes_of_holding (with_new_inode dir records r.name r.kind r.inode holding)) dir r.name
-      (new_node r.kind) r.inode
+      (new_object r.kind) r.inode
   adds r free = record {
     free = ap (option_map inode_content) free;
     added =
@@ -151,14 +151,14 @@ module _ (holding : Holding) (dir : ℕ) (records : List Record)
         ∙ ap Some (fresh r.kind);
     others = λ i ne.
         subst (λ (o : Option InodeContent).
-        HoldsChanged (put_record dir r.name (Some (r.inode, node_kind (new_node r.kind))) i)
+        HoldsChanged (put_record dir r.name (Some (r.inode, object_kind (new_object r.kind))) i)
         (inodes_of_holding holding i) o)
         (sym (held_behind r.inode i (Some (new_held r.kind))
         (with_held dir (Some (Listed (with_record r records))) holding) ne))
         (subst (λ (k : Kind).
         HoldsChanged (put_record dir r.name (Some (r.inode, k)) i) (inodes_of_holding holding i)
         (inodes_of_holding (with_held dir (Some (Listed (with_record r records))) holding) i))
-        (sym (node_is r.kind))
+        (sym (object_is r.kind))
         (one_changed dir r.name (Some (r.inode, r.kind)) (Listed records)
         (Listed (with_record r records)) holding here (puts-record dir records r) i));
   }

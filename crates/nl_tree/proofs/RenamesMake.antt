@@ -7,14 +7,14 @@ use Rattle.std.proofs.lemmas.List.{length-reverse}
 use Rattle.nl_types.specs.declared.error.VolError.{VolError}
 use Rattle.nl_types.specs.declared.error.VolError.TheVariants.{Memory}
 use Rattle.nl_types.specs.declared.reply.Answer.TheVariants as answer
-use Rattle.nl_types.specs.declared.reply.Node.{Node}
+use Rattle.nl_types.specs.declared.reply.Object.{Object}
 use Rattle.nl_types.specs.Plain.Paths.{Name, Path, is_name, path_of}
 use Rattle.nl_types.specs.Plain.Trees.{Tree}
 use Rattle.nl_types.specs.Plain.Calls.{Changed, rename}
-use Rattle.nl_types.specs.Inodes.{Link, MeansTree, node_of}
+use Rattle.nl_types.specs.Inodes.{Link, MeansTree, object_of}
 use Rattle.nl_types.specs.Judging.{judge_rename}
 use Rattle.nl_types.specs.Resolving.{record_in}
-use Rattle.nl_types.specs.Facts.Inodes.Resolving.{child_record, dir_stands, inode, node_held}
+use Rattle.nl_types.specs.Facts.Inodes.Resolving.{child_record, dir_stands, inode, object_held}
 use Rattle.nl_types.specs.Facts.Inodes.Standing.{zipped}
 use Rattle.nl_dirs.specs.declared.record.Record.{Record}
 use Rattle.nl_dirs.specs.Records.{NamesAscend, entry_of}
@@ -41,10 +41,10 @@ use Rattle.nl_tree.proofs.RecordSteps.{ascend-with, ascend-without}
 
 -- ---- what places are
 
-some_held : (held : Option Held) (node : Node)
-    → option_map node_of (option_map inode_content held) ≡ Some node → (what : Held) × (held ≡ Some what)
-some_held None node e = absurd cc
-some_held (Some what) node e = (what, refl)
+some_held : (held : Option Held) (object : Object)
+    → option_map object_of (option_map inode_content held) ≡ Some object → (what : Held) × (held ≡ Some what)
+some_held None object e = absurd cc
+some_held (Some what) object e = (what, refl)
 
 longer : (dir : Path) (name : Name) → reverse (dir ++ name ∷ []) ≡ reverse dir → ⊥
 longer dir name e =
@@ -112,7 +112,7 @@ module _ (held : Holding) (tree : Tree) (sound : IsHolding held)
       let z = zipped (inode (inodes_of_holding held) tree means (place.dir ++ name ∷ [])) _ link is in
       let what =
       some_held (held link.0) z.1
-      (node_held (inodes_of_holding held) tree means (place.dir ++ name ∷ []) z.1 link.0 z.0 z.2) in
+      (object_held (inodes_of_holding held) tree means (place.dir ++ name ∷ []) z.1 link.0 z.0 z.2) in
       record {
         number = sound.inode_numbers link.0 what.0 what.1;
         other = λ e.

@@ -8,7 +8,7 @@ use Rattle.nl_types.specs.declared.error.VolError.TheVariants.{Memory, TooBig}
 use Rattle.nl_types.specs.declared.kind.Kind.TheVariants as kind
 use Rattle.nl_types.specs.declared.reply.Answer.{Answer}
 use Rattle.nl_types.specs.declared.reply.Answer.TheVariants as answer
-use Rattle.nl_types.specs.declared.reply.Node.TheVariants as node
+use Rattle.nl_types.specs.declared.reply.Object.TheVariants as object
 use Rattle.nl_types.specs.Plain.Limits.{file_limit}
 use Rattle.nl_types.specs.Plain.Paths.{Path, path_of}
 use Rattle.nl_types.specs.Plain.Trees.{Tree, insert}
@@ -180,12 +180,12 @@ module _ (now : Current) (base : Holding) (tree : Tree) (stands : StandsOver now
   write_over offset bytes names was =
       cond (length bytes == 0) (Ok (answer.Written 0, tree)) (
       refuse_if (nat_lt file_limit (offset + length bytes)) TooBig (
-      Ok (answer.Written (length bytes), insert tree names (node.File (overwritten was offset bytes)))))
+      Ok (answer.Written (length bytes), insert tree names (object.File (overwritten was offset bytes)))))
 
   abbrev resize : ℕ → Path → List ℕ → Changed
   resize size names was =
       refuse_if (nat_lt file_limit size) TooBig
-      (Ok (answer.Done, insert tree names (node.File (resized was size))))
+      (Ok (answer.Done, insert tree names (object.File (resized was size))))
 
   pub write_refused : (offset : ℕ) (bytes path : List ℕ) (x : VolError)
       → Err x ≡ and_then (link_at held path) as_file

@@ -6,8 +6,8 @@ use Rattle.nl_types.specs.Plain.Limits.{file_limit, first_inode, last_inode, pat
 use Rattle.nl_types.specs.Plain.Paths.{Name, is_name}
 use Rattle.nl_types.specs.declared.kind.Kind.{Kind}
 use Rattle.nl_types.specs.declared.kind.Kind.TheVariants as kind
-use Rattle.nl_types.specs.declared.reply.Node.{Node}
-use Rattle.nl_types.specs.declared.reply.Node.TheVariants.{Dir, File}
+use Rattle.nl_types.specs.declared.reply.Object.{Object}
+use Rattle.nl_types.specs.declared.reply.Object.TheVariants.{Dir, File}
 use Rattle.nl_types.specs.Blocks.Roots.{Blocks}
 use Rattle.nl_types.specs.Inodes.{InodeContent, Bytes, Records, Inodes}
 use Rattle.nl_dirs.specs.declared.record.Record.{Record}
@@ -69,9 +69,9 @@ abbrev pub new_held : Kind → Held
 new_held kind.File = Stored 0 (λ _. None)
 new_held kind.Directory = Listed []
 
-abbrev pub new_node : Kind → Node
-new_node kind.File = File []
-new_node kind.Directory = Dir
+abbrev pub new_object : Kind → Object
+new_object kind.File = File []
+new_object kind.Directory = Dir
 
 -- ---- what is true of every tree's inodes
 

@@ -4,7 +4,7 @@ ghost use Rattle.nl_types.specs.Plain.Calls.{and_then, create, rmdir, unlink};
 ghost use Rattle.nl_types.specs.Plain.Paths.{path_of};
 ghost use Rattle.nl_types.specs.declared.kind.Kind.TheVariants as kind;
 ghost use Rattle.nl_tree.specs.CurrentTrees.{AltersAs, AnswersAs, CanCall, HasCreated, HasRemoved};
-ghost use Rattle.nl_tree.specs.Held.{new_node};
+ghost use Rattle.nl_tree.specs.Held.{new_object};
 
 use crate::current::CurrentTree;
 use crate::paths::{find_place, names_behind};
@@ -27,7 +27,7 @@ impl CurrentTree {
     ) -> Result<(), VolError>
         requires { CanCall (B.TreeRead.holds base.now) self.old }
         ensures done { AnswersAs (B.TreeRead.holds base.now) (λ _. Answer.Done) result self.old self.new
-            (λ tree. and_then (path_of path.now) (create tree (new_node kind))) }
+            (λ tree. and_then (path_of path.now) (create tree (new_object kind))) }
         ensures changes { AltersAs (B.TreeRead.holds base.now) result self.old self.new
             (HasCreated path.now kind) }
         ensures same { OnErr result (self.new ≡ self.old) }

@@ -5,7 +5,7 @@ use Rattle.nl_types.specs.declared.error.VolError.TheVariants.{Exists, BadPath}
 use Rattle.nl_types.specs.declared.reply.Answer.{Answer}
 use Rattle.nl_types.specs.declared.reply.Answer.TheVariants as answer
 use Rattle.nl_types.specs.declared.kind.Kind.TheVariants as kind
-use Rattle.nl_types.specs.declared.reply.Node.{Node}
+use Rattle.nl_types.specs.declared.reply.Object.{Object}
 use Rattle.nl_types.specs.Plain.Limits.{file_limit}
 use Rattle.nl_types.specs.Plain.Paths.{Name, Path}
 use Rattle.nl_types.specs.Plain.Trees.{Tree, IsTree, insert, remove, move_subtree}
@@ -26,10 +26,10 @@ FilesAreJudged =
 abbrev pub CreatesAreJudged : Type 0
 CreatesAreJudged =
     (inodes : Inodes) (tree : Tree) → MeansTree inodes tree
-    → (node : Node) (dir : Path) (name : Name)
-    → create tree node (dir ++ name ∷ [])
+    → (object : Object) (dir : Path) (name : Name)
+    → create tree object (dir ++ name ∷ [])
     ≡ and_then (judge_create inodes (length tree) dir name) (λ _.
-    Ok (answer.Done, insert tree (dir ++ name ∷ []) node))
+    Ok (answer.Done, insert tree (dir ++ name ∷ []) object))
 
 abbrev pub RmdirsAreJudged : Type 0
 RmdirsAreJudged =
@@ -61,7 +61,7 @@ StatsAreJudged =
 
 -- nothing is made at the root, and nothing moves there
 abbrev pub RootIsThere : Type 0
-RootIsThere = (tree : Tree) → IsTree tree → (node : Node) → create tree node [] ≡ Err Exists
+RootIsThere = (tree : Tree) → IsTree tree → (object : Object) → create tree object [] ≡ Err Exists
 
 abbrev pub RootStays : Type 0
 RootStays = (tree : Tree) (from : Path) → rename tree from [] ≡ Err BadPath
@@ -77,10 +77,10 @@ pub record LeadsTo (result : Changed) (given : Answer) (new : Inodes) (paths : �
 
 abbrev pub CreatesLead : Type 0
 CreatesLead =
-    (old new : Inodes) (tree : Tree) (node : Node) (dir : Path) (name : Name) (parent inode : ℕ)
+    (old new : Inodes) (tree : Tree) (object : Object) (dir : Path) (name : Name) (parent inode : ℕ)
     → MeansTree old tree → judge_create old (length tree) dir name ≡ Ok parent
-    → Adds old new parent name node inode
-    → LeadsTo (create tree node (dir ++ name ∷ [])) answer.Done new (length tree + 1)
+    → Adds old new parent name object inode
+    → LeadsTo (create tree object (dir ++ name ∷ [])) answer.Done new (length tree + 1)
 
 abbrev pub WritesLead : Type 0
 WritesLead =

@@ -6,10 +6,10 @@
 --     Replaces         the same, where a file or an empty directory has it, which is removed
 use Rattle.std.specs.Prelude.{◌≡◌, ℕ, IsTrue, ◌==◌, ◌&&◌, false, if◌then◌else◌, List, ◌∷◌, reverse, Option, Some, None}
 use Rattle.std.specs.FinMap.{find, is_sorted}
-use Rattle.nl_types.specs.declared.reply.Node.{Node}
-use Rattle.nl_types.specs.declared.reply.Node.TheVariants.{Dir, File}
+use Rattle.nl_types.specs.declared.reply.Object.{Object}
+use Rattle.nl_types.specs.declared.reply.Object.TheVariants.{Dir, File}
 use Rattle.nl_types.specs.Plain.Paths.{Name, Path, name_cmp, same_name, is_within}
-use Rattle.nl_types.specs.Plain.Trees.{node_kind}
+use Rattle.nl_types.specs.Plain.Trees.{object_kind}
 use Rattle.nl_types.specs.Inodes.{Link, InodeContent, Bytes, Records, Inodes, reached}
 
 -- ---- changes of records
@@ -48,7 +48,7 @@ pub record ListsRecords (records : Name → Option Link) (listed : List (Name ×
   pub finds : (n : Name) → find name_cmp n listed ≡ records n
 
 -- what a new inode holds
-abbrev pub fresh_content : Node → InodeContent
+abbrev pub fresh_content : Object → InodeContent
 fresh_content Dir = Records (λ _. None)
 fresh_content (File bytes) = Bytes bytes
 
@@ -59,11 +59,11 @@ IsBare (Records records) = (n : Name) → records n ≡ None
 
 -- ---- what changes, by inode numbers
 
-pub record Adds (old new : Inodes) (dir : ℕ) (name : Name) (node : Node) (inode : ℕ) : Type 0 where
+pub record Adds (old new : Inodes) (dir : ℕ) (name : Name) (object : Object) (inode : ℕ) : Type 0 where
   pub free : old inode ≡ None
-  pub added : new inode ≡ Some (fresh_content node)
+  pub added : new inode ≡ Some (fresh_content object)
   pub others : (i : ℕ) → (i ≡ inode → ⊥)
-      → HoldsChanged (put_record dir name (Some (inode, node_kind node)) i) (old i) (new i)
+      → HoldsChanged (put_record dir name (Some (inode, object_kind object)) i) (old i) (new i)
 
 pub record Refills (old new : Inodes) (inode : ℕ) (bytes : List ℕ) : Type 0 where
   pub now : new inode ≡ Some (Bytes bytes)
@@ -86,10 +86,10 @@ pub record MovesOnto (old new : Inodes) (from : ℕ) (from_name : Name) (to : �
 
 -- ---- what calls do, at paths
 
-pub record Creates (old new : Inodes) (dir : Path) (name : Name) (node : Node) (inode : ℕ) : Type 0 where
+pub record Creates (old new : Inodes) (dir : Path) (name : Name) (object : Object) (inode : ℕ) : Type 0 where
   pub parent : HasRecords old dir
   pub absent : parent.records name ≡ None
-  pub adds : Adds old new parent.inode name node inode
+  pub adds : Adds old new parent.inode name object inode
 
 pub record Rewrites (old new : Inodes) (path : Path) (bytes : List ℕ) : Type 0 where
   pub inode : ℕ

@@ -1,18 +1,18 @@
 -- What inodes and trees have to do with one another.
 use Rattle.std.specs.Prelude.{◌≡◌, ◌⊎◌, ℕ, ◌<◌, ◌≤◌, ◌+◌, ◌-◌, true, IsTrue, List, [], ◌∷◌, ◌++◌, map, length, reverse, is_some, Option, Some, None, Ok}
 use Rattle.std.specs.Option.{option_and_then, ok_or}
-use Rattle.nl_types.specs.declared.reply.Node.{Node}
-use Rattle.nl_types.specs.declared.reply.Node.TheVariants.{File}
+use Rattle.nl_types.specs.declared.reply.Object.{Object}
+use Rattle.nl_types.specs.declared.reply.Object.TheVariants.{File}
 use Rattle.nl_types.specs.declared.error.VolError.TheVariants.{NotFound}
 use Rattle.nl_types.specs.declared.kind.Kind.{Kind}
 use Rattle.nl_types.specs.declared.kind.Kind.TheVariants as kind
 use Rattle.nl_types.specs.Plain.Limits.{file_limit, path_limit, root_inode, first_inode, last_inode}
 use Rattle.nl_types.specs.Plain.Paths.{Name, Path, is_name}
-use Rattle.nl_types.specs.Plain.Calls.{and_then, walk, node_at}
+use Rattle.nl_types.specs.Plain.Calls.{and_then, walk, object_at}
 use Rattle.nl_types.specs.Plain.Trees.{Tree, IsTree, root_alone, lookup, insert, remove, move_subtree, children}
-use Rattle.nl_types.specs.Inodes.{Link, InodeContent, Bytes, Records, Inodes, MeansTree, found_node, reached}
+use Rattle.nl_types.specs.Inodes.{Link, InodeContent, Bytes, Records, Inodes, MeansTree, found_object, reached}
 use Rattle.nl_types.specs.InodeChanges.{HasRecords, ListsRecords, Creates, Rewrites, Removes, Renames, Replaces}
-use Rattle.nl_types.specs.Resolving.{resolve, record_in, as_dir, node_in}
+use Rattle.nl_types.specs.Resolving.{resolve, record_in, as_dir, object_in}
 
 -- ---- changes of inodes, and of the tree and the number of its paths
 
@@ -24,9 +24,9 @@ pub record MeansPaths (inodes : Inodes) (tree : Tree) (paths : ℕ) : Type 0 whe
 -- a new inode with its record is a new path
 abbrev pub CreatesInsert : Type 0
 CreatesInsert =
-    (old new : Inodes) (tree : Tree) (dir : Path) (name : Name) (node : Node) (inode : ℕ)
-    → MeansTree old tree → Creates old new dir name node inode
-    → MeansPaths new (insert tree (reverse (name ∷ dir)) node) (length tree + 1)
+    (old new : Inodes) (tree : Tree) (dir : Path) (name : Name) (object : Object) (inode : ℕ)
+    → MeansTree old tree → Creates old new dir name object inode
+    → MeansPaths new (insert tree (reverse (name ∷ dir)) object) (length tree + 1)
 
 -- other bytes in a file's inode are other bytes at its path
 abbrev pub RewritesInsert : Type 0
@@ -85,14 +85,14 @@ FullVolumesAreTooBig =
 abbrev pub WalksFind : Type 0
 WalksFind =
     (inodes : Inodes) (tree : Tree) → MeansTree inodes tree
-    → (path : Path) → found_node inodes path ≡ lookup tree (reverse path)
+    → (path : Path) → found_object inodes path ≡ lookup tree (reverse path)
 
 -- the walk over inodes to a path finds what the tree has there, or is refused as the tree refuses
-abbrev pub NodesByInodes : Type 0
-NodesByInodes =
+abbrev pub ObjectsByInodes : Type 0
+ObjectsByInodes =
     (inodes : Inodes) (tree : Tree) → MeansTree inodes tree
     → (path : Path)
-    → node_at tree path ≡ and_then (resolve inodes path) (λ at. ok_or (node_in inodes at) NotFound)
+    → object_at tree path ≡ and_then (resolve inodes path) (λ at. ok_or (object_in inodes at) NotFound)
 
 -- a path is walked to where the walk over inodes comes to its directory
 abbrev pub ParentsByInodes : Type 0
@@ -105,7 +105,7 @@ abbrev pub ChildrenByRecords : Type 0
 ChildrenByRecords =
     (inodes : Inodes) (tree : Tree) → MeansTree inodes tree
     → (dir : Path) (name : Name) (i : ℕ) → resolve inodes dir ≡ Ok (i, kind.Directory)
-    → lookup tree (dir ++ name ∷ []) ≡ option_and_then (node_in inodes) (record_in (inodes i) name)
+    → lookup tree (dir ++ name ∷ []) ≡ option_and_then (object_in inodes) (record_in (inodes i) name)
 
 -- a walk that comes to a directory comes to an inode with records
 abbrev pub DirectoriesHoldRecords : Type 0

@@ -4,12 +4,12 @@ use Rattle.std.specs.Prelude.{◌≡◌, ◌≤◌, ◌<◌, ℕ, IsTrue, IsSome
 use Rattle.std.specs.Option.{is_some, option_map, option_and_then, option_zip}
 use Rattle.std.specs.FinMap.{is_sorted}
 use Rattle.nl_types.specs.declared.kind.Kind.{Kind}
-use Rattle.nl_types.specs.declared.reply.Node.{Node}
-use Rattle.nl_types.specs.declared.reply.Node.TheVariants.{Dir, File}
+use Rattle.nl_types.specs.declared.reply.Object.{Object}
+use Rattle.nl_types.specs.declared.reply.Object.TheVariants.{Dir, File}
 use Rattle.nl_types.specs.Plain.Limits.{last_inode, root_inode}
 use Rattle.nl_types.specs.Blocks.PartialMaps.{Partial}
 use Rattle.nl_types.specs.Plain.Paths.{Name, Path, path_cmp}
-use Rattle.nl_types.specs.Plain.Trees.{Tree, lookup, node_kind}
+use Rattle.nl_types.specs.Plain.Trees.{Tree, lookup, object_kind}
 
 -- what a record says of a name: the number of its inode, and what that is
 abbrev pub Link : Type 0
@@ -48,32 +48,32 @@ unfoldable pub reached : Inodes → Path → Option ℕ
 reached inodes [] = Some root_inode
 reached inodes (n ∷ p) = option_and_then (λ c. inode_named n c) (option_and_then inodes (reached inodes p))
 
-abbrev pub node_of : InodeContent → Node
-node_of (Bytes bytes) = File bytes
-node_of (Records records) = Dir
+abbrev pub object_of : InodeContent → Object
+object_of (Bytes bytes) = File bytes
+object_of (Records records) = Dir
 
 -- what a walk finds
-abbrev pub found_node : Inodes → Path → Option Node
-found_node inodes p = option_map node_of (option_and_then inodes (reached inodes p))
+abbrev pub found_object : Inodes → Path → Option Object
+found_object inodes p = option_map object_of (option_and_then inodes (reached inodes p))
 
 -- ---- the tree that they stand for
 
 -- a tree as a function from upward paths
-abbrev pub upward : Tree → Path → Option Node
+abbrev pub upward : Tree → Path → Option Object
 upward tree p = lookup tree (reverse p)
 
 -- the root is a directory, and so is the parent of every other path that is there
-pub record IsRooted (tree : Path → Option Node) : Type 0 where
+pub record IsRooted (tree : Path → Option Object) : Type 0 where
   pub root : tree [] ≡ Some Dir
-  pub parents : (n : Name) (p : Path) (x : Node) → tree (n ∷ p) ≡ Some x → tree p ≡ Some Dir
+  pub parents : (n : Name) (p : Path) (x : Object) → tree (n ∷ p) ≡ Some x → tree p ≡ Some Dir
 
 -- the record that a path would have in its parent
-abbrev pub record_of : (Path → Option Node) → (Path → Option ℕ) → Path → Option Link
-record_of tree inode_of p = option_zip (inode_of p) (option_map node_kind (tree p))
+abbrev pub record_of : (Path → Option Object) → (Path → Option ℕ) → Path → Option Link
+record_of tree inode_of p = option_zip (inode_of p) (option_map object_kind (tree p))
 
 -- the paths of the tree and the inodes in use are paired one to one, the root with its own number, such that
 -- a directory's inode has its children's names as records and a file's inode has its bytes
-pub record Pairs (inodes : Inodes) (tree : Path → Option Node) (inode_of : Path → Option ℕ) : Type 0 where
+pub record Pairs (inodes : Inodes) (tree : Path → Option Object) (inode_of : Path → Option ℕ) : Type 0 where
   pub root : inode_of [] ≡ Some root_inode
   pub paths : (p : Path) → is_some (inode_of p) ≡ is_some (tree p)
   pub once : (p q : Path) (i : ℕ) → inode_of p ≡ Some i → inode_of q ≡ Some i → p ≡ q

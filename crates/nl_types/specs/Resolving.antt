@@ -4,11 +4,11 @@ use Rattle.std.specs.Option.{ok_or, option_map}
 use Rattle.nl_types.specs.declared.error.VolError.{VolError}
 use Rattle.nl_types.specs.declared.error.VolError.TheVariants.{NotFound, NotDir}
 use Rattle.nl_types.specs.declared.kind.Kind.TheVariants as kind
-use Rattle.nl_types.specs.declared.reply.Node.{Node}
+use Rattle.nl_types.specs.declared.reply.Object.{Object}
 use Rattle.nl_types.specs.Plain.Limits.{root_inode}
 use Rattle.nl_types.specs.Plain.Paths.{Name, Path}
 use Rattle.nl_types.specs.Plain.Calls.{and_then}
-use Rattle.nl_types.specs.Inodes.{Link, InodeContent, Bytes, Records, Inodes, node_of}
+use Rattle.nl_types.specs.Inodes.{Link, InodeContent, Bytes, Records, Inodes, object_of}
 
 -- the record of a name, in what an inode holds
 abbrev pub record_in : Option InodeContent → Name → Option Link
@@ -37,8 +37,8 @@ as_dir (i, kind.File) = Err NotDir
 as_dir (i, kind.Directory) = Ok tt
 
 -- what stands where a walk has come to
-abbrev pub node_in : Inodes → Link → Option Node
-node_in inodes at = option_map node_of (inodes at.0)
+abbrev pub object_in : Inodes → Link → Option Object
+object_in inodes at = option_map object_of (inodes at.0)
 
 -- the walk to a directory comes to this inode, where the name has this record
 pub record IsNamed (inodes : Inodes) (dir : Path) (name : Name) (inode : ℕ)

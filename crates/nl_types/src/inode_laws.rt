@@ -1,16 +1,16 @@
 //! What inodes and the tree that they stand for have to do with one another, as contracts of functions that
 //! do nothing.
-ghost use Rattle.nl_types.specs.InodeLaws.{CreatesInsert, RewritesInsert, RemovesRemove, RenamesMove, ReplacesMove, ChildrenAreRecords, FullVolumesAreTooBig, WalksFind, NodesByInodes, ParentsByInodes, ChildrenByRecords, DirectoriesHoldRecords, FilesHoldBytes, InodesMeanOneTree, NewInodesMeanTheRoot, LimitedInodesMeanTrees};
+ghost use Rattle.nl_types.specs.InodeLaws.{CreatesInsert, RewritesInsert, RemovesRemove, RenamesMove, ReplacesMove, ChildrenAreRecords, FullVolumesAreTooBig, WalksFind, ObjectsByInodes, ParentsByInodes, ChildrenByRecords, DirectoriesHoldRecords, FilesHoldBytes, InodesMeanOneTree, NewInodesMeanTheRoot, LimitedInodesMeanTrees};
 ghost use Rattle.nl_types.specs.InodeCallLaws.{FilesAreJudged, CreatesAreJudged, RmdirsAreJudged, RenamesAreJudged, ListsAreJudged, StatsAreJudged, RootIsThere, RootStays, CreatesLead, WritesLead, TruncatesLead, UnlinksLead, RmdirsLead, RenamesLead, RenamesOntoLead};
 
 /// A walk by directories finds what the tree has.
-pub fn walks_find_nodes()
+pub fn walks_find_objects()
     ensures { WalksFind }
 {}
 
 /// A walk over inodes finds what the tree has, and is refused as the tree refuses.
 pub fn walks_over_inodes_are_walks()
-    ensures nodes { NodesByInodes }
+    ensures objects { ObjectsByInodes }
     ensures parents { ParentsByInodes }
     ensures children { ChildrenByRecords }
     ensures directories { DirectoriesHoldRecords }

@@ -75,15 +75,10 @@ pub fn untar<W: Write>(
     let moment = moment(rt, matches, clock.now)?;
     let most = most(rt, matches)?;
     let mut progress = Progress::begin(rt);
-    let unpacked = unpacked(rt, &mut progress)?;
+    let Kept { tree, left_out } = unpacked(rt, &mut progress)?;
     progress.tell("storing");
-    let wanted = Wanted {
-        tree: unpacked.tree.as_slice(),
-        moment,
-        most,
-    };
+    let wanted = Wanted { tree, moment, most };
     let kept = keep(rt, path, clock, wanted, &mut place, printer);
     progress.end();
-    kept?;
-    Ok(Outcome::of(unpacked.left_out.is_empty()))
+    Ok(kept?.and(Outcome::of(left_out.is_empty())))
 }

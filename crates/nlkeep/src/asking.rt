@@ -17,7 +17,7 @@ pub struct Clock<'z> {
 #[derive(Clone, Copy, PartialEq, Eq)]
 pub enum Outcome {
     Done,
-    /// `diff` found something.
+    /// `diff` or `check` found something.
     Differs,
     /// Something was left out.
     Partly,
@@ -31,6 +31,11 @@ impl Outcome {
         } else {
             Outcome::Partly
         }
+    }
+
+    /// Of two parts of a command that find nothing: something was left out where it was in one of them.
+    pub fn and(self, other: Outcome) -> Outcome {
+        if self == Outcome::Done { other } else { self }
     }
 
     /// The program's status.

@@ -13,7 +13,7 @@ use nl_device::MemDevice;
 use nl_folders::Path;
 use nl_host::Pattern;
 use nl_keep_pen::PenVolume;
-use nl_types::Node;
+use nl_types::Object;
 use std::alloc::{AllocError, Global};
 use std::io::Write;
 
@@ -50,7 +50,7 @@ fn compare<W: Write>(
     path: &str,
     clock: Clock<'_>,
     volume: &mut PenVolume<MemDevice>,
-    tree: &[(Path, Node)],
+    tree: &[(Path, Object)],
     printer: &mut Printer<W>,
 ) -> Result<(), Fault> {
     let alloc = rt.alloc();
@@ -65,7 +65,7 @@ fn compare_with_image<W: Write>(
     rt: &HostRuntime,
     path: &str,
     clock: Clock<'_>,
-    tree: &[(Path, Node)],
+    tree: &[(Path, Object)],
     printer: &mut Printer<W>,
 ) -> Result<(), Fault> {
     match open_at(rt, path) {
@@ -102,15 +102,10 @@ pub fn backup<W: Write>(
     let moment = moment(rt, matches, clock.now)?;
     let most = most(rt, matches)?;
     let mut progress = Progress::begin(rt);
-    let scan = scan_asked(rt, matches, &mut progress)?;
+    let Scan { tree, left_out } = scan_asked(rt, matches, &mut progress)?;
     progress.tell("storing");
-    let wanted = Wanted {
-        tree: scan.tree.as_slice(),
-        moment,
-        most,
-    };
+    let wanted = Wanted { tree, moment, most };
     let kept = keep(rt, path, clock, wanted, &mut place, printer);
     progress.end();
-    kept?;
-    Ok(Outcome::of(scan.left_out.is_empty()))
+    Ok(kept?.and(Outcome::of(left_out.is_empty())))
 }

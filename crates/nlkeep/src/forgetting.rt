@@ -142,11 +142,11 @@ pub fn forget<W: Write>(
         },
     ) {
         Ok(next) => {
-            save_image(rt, path, &mut place, next.as_slice())?;
+            let saved = save_image(rt, path, &mut place, next.as_slice())?;
             let count = numbers.len();
             let ending = if count == 1 { "" } else { "s" };
             writeln!(printer.out, "{count} checkpoint{ending} removed")?;
-            Ok(Outcome::Done)
+            Ok(saved)
         }
         Err(error) => Err(volume_fault(alloc, path, error)),
     }

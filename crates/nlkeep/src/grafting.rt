@@ -1,6 +1,6 @@
 //! A part of an earlier tree that comes back into a later one.
 use nl_folders::{Name, Path, begins_with, compare, copied, find_in};
-use nl_manifests::{Attributes, HostEntry, HostNode, HostTree};
+use nl_manifests::{Attributes, HostEntry, HostObject, HostTree};
 use nl_types::Items;
 use std::alloc::{AllocError, Global};
 
@@ -59,13 +59,13 @@ fn add_folder(
     match find_in(tree.as_slice(), path) {
         None => {
             let folder = HostEntry {
-                node: HostNode::Directory,
+                object: HostObject::Directory,
                 attributes: attributes_at(earlier, path),
             };
             tree.push((copied(alloc, path)?, folder))?;
             Ok(())
         }
-        Some(entry) if matches!(entry.node, HostNode::Directory) => Ok(()),
+        Some(entry) if matches!(entry.object, HostObject::Directory) => Ok(()),
         Some(_) => Err(GraftError::NoFolder),
     }
 }
@@ -99,8 +99,8 @@ fn with_known_folder(
             }
             attributes => attributes,
         };
-        let node = entry.node;
-        known.push((path, HostEntry { node, attributes }))?;
+        let object = entry.object;
+        known.push((path, HostEntry { object, attributes }))?;
     }
     Ok(known)
 }

@@ -3,6 +3,7 @@ use crate::asking::{Clock, Outcome};
 use crate::checkpoints::is_minor;
 use crate::comparing::{Pair, differs_below};
 use crate::faults::{Fault, fault_at};
+use crate::json::{StandingObject, object};
 use crate::moments::shown;
 use crate::parts::path_said;
 use crate::printing::Printer;
@@ -37,23 +38,29 @@ fn tell_standing<W: Write>(
     row: &Row,
     path: &[Name],
     clock: Clock<'_>,
+    is_json: bool,
     printer: &mut Printer<W>,
 ) -> Result<(), Fault> {
     let tree = view.shown(alloc, row.number)?.tree;
     let seen = view.seen(alloc, row.number, tree.as_slice(), path)?;
     let (number, date) = (row.number.get(), shown(alloc, clock.zone, row.stamp)?);
+    if is_json {
+        let told = StandingObject::of(alloc, row, date.as_str(), seen)?;
+        return object(alloc, &told, printer);
+    }
     write!(printer.out, "{number:>8}  {date}  ")?;
     printer.standing(seen)?;
     Ok(())
 }
 
 /// Tells each kept checkpoint whose tree differs at or below a path from that of the one before, the oldest
-/// first, with its date and what stands there. Minor ones, which no person made, are passed over.
+/// first, with its date and what stands there, in a line or an object. Minor ones, which no person made, are passed over.
 pub fn history<W: Write>(
     alloc: Global,
     view: &View<'_>,
     word: &str,
     clock: Clock<'_>,
+    is_json: bool,
     printer: &mut Printer<W>,
 ) -> Result<Outcome, Fault> {
     let path = path_said(alloc, word)?;
@@ -62,7 +69,7 @@ pub fn history<W: Write>(
     for row in view.rows.as_slice() {
         if !is_minor(row) {
             if is_changed(alloc, view, before, row.number, path.as_slice())? {
-                tell_standing(alloc, view, row, path.as_slice(), clock, printer)?;
+                tell_standing(alloc, view, row, path.as_slice(), clock, is_json, printer)?;
                 was_there = true;
             }
             before = Some(row.number);

@@ -1,9 +1,13 @@
 //! The image of a volume: read, opened, and saved again.
-ghost use Rattle.std.specs.Prelude.{IfOk};
-ghost use Rattle.nl_image.specs.Conditions.{IsShapeOf, MeetsFirst};
+ghost use Rattle.std.specs.Prelude.{IfErr, IfOk};
+ghost use Rattle.nl_image.specs.Conditions.{AreImage, IsShapeOf, MeetsFirst};
 ghost use Rattle.nl_image.specs.Parts.{Parts};
+ghost use Rattle.nl_image.specs.Reading.{IsRefusal};
+ghost use Rattle.nl_core.specs.Opened.{IsOpenRefusal};
 
+use crate::asking::Outcome;
 use crate::faults::{Fault, fault_at, system_fault, volume_fault};
+use crate::sums::PlannedSum;
 use nl_core::{Pen, geometry_of, open};
 use nl_device::MemDevice;
 use nl_saving::{FileFault, InUse, SavePlace, Saved, read_file};
@@ -22,8 +26,9 @@ pub fn read_image<R: AllocGlobal + Files>(rt: &R, path: &str) -> Result<Vec<u8>,
 }
 
 fn device_of(alloc: Global, image: &[u8]) -> Result<MemDevice, VolError>
-    ensures { IfOk result (λ device. (p : Parts) → MeetsFirst 2 image.now p
+    ensures shape { IfOk result (λ device. (p : Parts) → MeetsFirst 2 image.now p
         → IsShapeOf device.geometry p.shape) }
+    ensures refused { IfErr result (IsRefusal image.now) }
 {
     let geometry = geometry_of(image)?;
     let device = MemDevice::new(alloc, geometry)?;
@@ -41,9 +46,12 @@ pub fn device_for(alloc: Global, path: &str, image: &[u8]) -> Result<MemDevice, 
     }
 }
 
-fn pen_of(alloc: Global, image: &[u8]) -> Result<Pen<MemDevice>, VolError> {
-    let geometry = geometry_of(image)?;
-    let device = MemDevice::new(alloc, geometry)?;
+/// The volume of an image, on a device of its own. Refused as `open` of `nl_core` is.
+pub fn pen_of(alloc: Global, image: &[u8]) -> Result<Pen<MemDevice>, VolError>
+    ensures accepted { IfOk result (λ _. AreImage image.now) }
+    ensures refused { IfErr result (IsOpenRefusal image.now) }
+{
+    let device = device_of(alloc, image)?;
     open(alloc, image, device)
 }
 
@@ -72,15 +80,17 @@ pub fn take_place<'a, R: AllocGlobal + Files<File = File>>(
     }
 }
 
-/// Puts an image in its place, whole or not at all.
-pub fn save_image<R: AllocGlobal + Files<File = File>>(
-    rt: &R,
+/// Puts an image in its place, whole or not at all, and then its sum beside it. Answers whether that was left
+/// out, which is told.
+pub fn save_image(
+    rt: &HostRuntime,
     path: &str,
     place: &mut SavePlace<'_>,
     image: &[u8],
-) -> Result<(), Fault> {
+) -> Result<Outcome, Fault> {
+    let sum = PlannedSum::of(rt.alloc(), path, image)?;
     match place.save(rt, image) {
-        Ok(Saved::There) => Ok(()),
+        Ok(Saved::There) => Ok(sum.save(rt, path)),
         Ok(Saved::Beside(side)) => Err(changed_fault(rt.alloc(), path, side.as_str())),
         Err(error) => Err(system_fault(rt.alloc(), path, "cannot be written", &error)),
     }

@@ -4,19 +4,23 @@ use crate::archives::tar;
 use crate::asking::{Clock, Outcome, word};
 use crate::checkpoints::is_minor;
 use crate::comparing::{Pair, tell_checkpoint_differences};
+use crate::df::df;
 use crate::faults::{Fault, fault_at, tree_fault};
 use crate::history::{find, history};
 use crate::images::open_at;
+use crate::json::{CheckpointObject, PlacedObject, object};
 use crate::moments::shown;
 use crate::outline::{du, tree};
 use crate::parts::path_said;
-use crate::printing::{Printer, tell_refused};
+use crate::printing::{Printer, Seen, tell_no_pins, tell_refused};
 use crate::restore::restore;
+use crate::showing::show;
 use crate::views::View;
 use clap::ArgMatches;
 use nl_device::MemDevice;
-use nl_folders::begins_with;
+use nl_folders::{Name, begins_with};
 use nl_keep_pen::PenVolume;
+use nl_pins::Pins;
 use nl_types::{CheckpointNumber, Mode, Row};
 use std::alloc::Global;
 use std::io::Write;
@@ -30,10 +34,10 @@ fn kind(row: &Row) -> &'static str {
 }
 
 /// How much the tree of a checkpoint has. Where it has the tree of the one before, that isn't looked at again.
-fn amount_behind(
+pub fn amount_behind(
     alloc: Global,
     view: &View<'_>,
-    before: Option<Counted>,
+    before: Option<&Counted>,
     number: CheckpointNumber,
 ) -> Result<Amount, Fault> {
     match before {
@@ -50,9 +54,9 @@ fn amount_behind(
 
 /// A checkpoint with how much its tree has.
 #[derive(Clone, Copy)]
-struct Counted {
-    number: CheckpointNumber,
-    amount: Amount,
+pub struct Counted {
+    pub number: CheckpointNumber,
+    pub amount: Amount,
 }
 
 /// What a command asks that looks at a volume.
@@ -71,16 +75,17 @@ impl Asked<'_, '_> {
             .number(self.alloc, word(self.matches, id), self.clock)
     }
 
-    /// Ends the line of a checkpoint with how much its tree has.
-    fn tell_amount<W: Write>(
+    /// How much the tree of a checkpoint has, where that is asked for.
+    fn counted(
         &self,
-        before: Option<Counted>,
+        before: Option<&Counted>,
         number: CheckpointNumber,
-        printer: &mut Printer<W>,
-    ) -> Result<Counted, Fault> {
+    ) -> Result<Option<Counted>, Fault> {
+        if !self.matches.get_flag("long") {
+            return Ok(None);
+        }
         let amount = amount_behind(self.alloc, self.view, before, number)?;
-        write!(printer.out, "  {:>8}  {:>10}", amount.paths, amount.bytes)?;
-        Ok(Counted { number, amount })
+        Ok(Some(Counted { number, amount }))
     }
 
     /// Tells of a checkpoint, without the end of the line.
@@ -92,20 +97,88 @@ impl Asked<'_, '_> {
         Ok(())
     }
 
+    /// Tells of a checkpoint by an object.
+    fn tell_object<W: Write>(
+        &self,
+        row: &Row,
+        pin: Option<&[u8]>,
+        counted: Option<&Counted>,
+        printer: &mut Printer<W>,
+    ) -> Result<(), Fault> {
+        let date = shown(self.alloc, self.clock.zone, row.stamp)?;
+        let mut told = CheckpointObject::of(self.alloc, row, date.as_str(), pin)?;
+        if let Some(counted) = counted {
+            told = told.with_amount(counted.amount.paths, counted.amount.bytes);
+        }
+        object(self.alloc, &told, printer)
+    }
+
+    /// Tells of a checkpoint by a line.
+    fn tell_line<W: Write>(
+        &self,
+        row: &Row,
+        pin: Option<&[u8]>,
+        counted: Option<&Counted>,
+        printer: &mut Printer<W>,
+    ) -> Result<(), Fault> {
+        self.tell_row(row, printer)?;
+        if let Some(Counted { amount, .. }) = counted {
+            write!(printer.out, "  {:>8}  {:>10}", amount.paths, amount.bytes)?;
+        }
+        if let Some(text) = pin {
+            printer.pin(text)?;
+        }
+        printer.line()?;
+        Ok(())
+    }
+
+    /// Lists a checkpoint, if it is asked for. It answers the one that was counted last.
+    fn list_row<W: Write>(
+        &self,
+        row: &Row,
+        pins: Option<&Pins>,
+        before: Option<Counted>,
+        printer: &mut Printer<W>,
+    ) -> Result<Option<Counted>, Fault> {
+        if is_minor(row) && !self.matches.get_flag("all") {
+            return Ok(before);
+        }
+        let counted = self.counted(before.as_ref(), row.number)?;
+        let pin = pins.and_then(|pins| pins.text(row.number));
+        if self.matches.get_flag("json") {
+            self.tell_object(row, pin, counted.as_ref(), printer)?;
+        } else {
+            self.tell_line(row, pin, counted.as_ref(), printer)?;
+        }
+        Ok(counted)
+    }
+
     /// Lists the checkpoints, the oldest first.
-    fn list<W: Write>(&self, printer: &mut Printer<W>) -> Result<Outcome, Fault> {
-        let (is_all, is_long) = (self.matches.get_flag("all"), self.matches.get_flag("long"));
+    fn list<W: Write>(&self, rt: &HostRuntime, printer: &mut Printer<W>) -> Result<Outcome, Fault> {
+        let pins = self.view.pins(self.alloc)?;
         let mut counted = None;
         for row in self.view.rows.as_slice() {
-            if is_all || !is_minor(row) {
-                self.tell_row(row, printer)?;
-                if is_long {
-                    counted = Some(self.tell_amount(counted, row.number, printer)?);
-                }
-                printer.line()?;
-            }
+            counted = self.list_row(row, pins.as_ref(), counted, printer)?;
         }
-        Ok(Outcome::Done)
+        if pins.is_none() {
+            tell_no_pins(rt);
+        }
+        Ok(Outcome::of(pins.is_some()))
+    }
+
+    /// Tells what stands at a path.
+    fn tell_entry<W: Write>(
+        &self,
+        path: &[Name],
+        seen: Seen<'_>,
+        printer: &mut Printer<W>,
+    ) -> Result<(), Fault> {
+        if self.matches.get_flag("json") {
+            let told = PlacedObject::of(self.alloc, path, seen)?;
+            return object(self.alloc, &told, printer);
+        }
+        printer.entry(path, seen)?;
+        Ok(())
     }
 
     /// Lists what lies at and below a path of a checkpoint, with the bytes of files.
@@ -119,7 +192,7 @@ impl Asked<'_, '_> {
             let path = path.as_slice();
             if begins_with(path, top.as_slice()) {
                 let seen = self.view.seen_entry(self.alloc, number, path, entry)?;
-                printer.entry(&path[top.len()..], seen)?;
+                self.tell_entry(&path[top.len()..], seen, printer)?;
                 is_there = true;
             }
         }
@@ -152,6 +225,7 @@ impl Asked<'_, '_> {
             self.view,
             pair,
             top.as_slice(),
+            self.matches.get_flag("json"),
             printer,
         )?;
         Ok(if count == 0 {
@@ -170,7 +244,7 @@ fn look_at<W: Write>(
     printer: &mut Printer<W>,
 ) -> Result<Outcome, Fault> {
     match name {
-        "list" => asked.list(printer),
+        "list" => asked.list(rt, printer),
         "ls" => asked.ls(rt, printer),
         "cat" => asked.cat(printer),
         "diff" => asked.diff(printer),
@@ -179,8 +253,17 @@ fn look_at<W: Write>(
             asked.view,
             word(asked.matches, "PATH"),
             asked.clock,
+            asked.matches.get_flag("json"),
             printer,
         ),
+        "df" => df(
+            asked.alloc,
+            asked.matches,
+            asked.view.path,
+            &asked.view.volume.pen,
+            printer,
+        ),
+        "show" => show(asked.alloc, asked.clock, asked.view, printer),
         "find" => find(
             asked.alloc,
             asked.view,

@@ -5,30 +5,50 @@ mod amounts;
 mod archives;
 mod asking;
 mod backup;
+mod capacity;
+mod checking;
 mod checkpoints;
 mod comparing;
+mod copying;
+mod culprits;
+mod df;
 mod faults;
 mod forgetting;
 mod grafting;
 mod history;
 mod images;
+mod json;
+mod later;
+mod leading;
 mod looking;
 mod making;
 mod moments;
 mod options;
 mod outline;
+mod page;
+mod pages;
 mod parts;
+mod pinning;
+mod places;
 mod printing;
 mod progress;
 mod pruning;
+mod rescue;
 mod restore;
 mod reverting;
 mod room;
 mod rounds;
+mod ruins;
 mod scanning;
+mod searching;
+mod sections;
+mod showing;
 mod sizes;
 mod storing;
+mod sums;
 mod unpacking;
+mod unsound;
+mod verdicts;
 mod views;
 
 use asking::{Clock, Outcome};
@@ -59,6 +79,10 @@ fn done<W: Write>(
         "prune" => pruning::prune(rt, matches, clock, printer),
         "untar" => archives::untar(rt, matches, clock, printer),
         "revert" => reverting::revert(rt, matches, clock, printer),
+        "check" => checking::check(rt, matches, printer),
+        "rescue" => rescue::rescue(rt, matches, printer),
+        "copy" => copying::copy(rt, matches, clock, printer),
+        "pin" => pinning::pin(rt, matches, clock, printer),
         _ => looking::look(rt, name, matches, clock, printer),
     }
 }

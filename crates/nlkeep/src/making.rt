@@ -14,8 +14,14 @@ use std::io::ErrorKind;
 /// How many segments a volume has where nothing is said: 8 MiB.
 const DEFAULT: u32 = 128;
 
-fn new_image(alloc: Global, segments: u32, moment: u64) -> Result<Vec<u8>, VolError> {
-    let geometry = Geometry::new(segments, BLOCKS)?;
+/// The image of a new volume of so many segments of so many blocks.
+pub fn new_image(
+    alloc: Global,
+    segments: u32,
+    blocks: u32,
+    moment: u64,
+) -> Result<Vec<u8>, VolError> {
+    let geometry = Geometry::new(segments, blocks)?;
     let device = MemDevice::new(alloc, geometry)?;
     format_image(alloc, device, geometry, moment)
 }
@@ -36,11 +42,8 @@ pub fn init(
     }
     let segments = segments(rt, matches, "size", DEFAULT)?;
     let moment = moment(rt, matches, clock.now)?;
-    match new_image(alloc, segments, moment) {
-        Ok(image) => {
-            save_image(rt, path, &mut place, image.as_slice())?;
-            Ok(Outcome::Done)
-        }
+    match new_image(alloc, segments, BLOCKS, moment) {
+        Ok(image) => save_image(rt, path, &mut place, image.as_slice()),
         Err(error) => Err(volume_fault(alloc, path, error)),
     }
 }

@@ -6,7 +6,7 @@ use std::alloc::{AllocError, Global};
 const MORE: &str = "\
 CNO is a checkpoint: its number, `latest`, or a date as 2026-11-26, 2026-11-26T18:00 or
 `yesterday`, which means the latest one at or before it.
-Status: 0 done, 1 `diff` found something, 2 refused, 3 done but something was left out.
+Status: 0 done, 1 `diff` or `check` found something, 2 refused, 3 done but something was left out.
 Owners are set by `restore --owners` alone. Extended attributes and ACLs are not kept.";
 
 /// How a command is given an argument.
@@ -80,6 +80,12 @@ const MOMENT: Argument<'static> = Argument {
     name: "at",
     kind: Kind::Valued("MOMENT"),
     help: "Seconds since 1970 [default: the clock's]",
+};
+
+const JSON: Argument<'static> = Argument {
+    name: "json",
+    kind: Kind::Flag,
+    help: "As objects of JSON, one a line",
 };
 
 const DRY_RUN: Argument<'static> = Argument {
@@ -166,12 +172,13 @@ const COMMANDS: &[Form<'static>] = &[
                 kind: Kind::Letter('l'),
                 help: "With the paths and bytes of each",
             },
+            JSON,
         ],
     },
     Form {
         name: "ls",
         about: "Lists the files and folders of a checkpoint with their sizes",
-        arguments: &[IMAGE, NUMBER, PATH],
+        arguments: &[IMAGE, NUMBER, PATH, JSON],
     },
     Form {
         name: "cat",
@@ -202,6 +209,7 @@ const COMMANDS: &[Form<'static>] = &[
                 help: CHECKPOINT,
             },
             PATH,
+            JSON,
         ],
     },
     Form {
@@ -214,6 +222,7 @@ const COMMANDS: &[Form<'static>] = &[
                 kind: Kind::Word,
                 help: "Path of a file, folder or link",
             },
+            JSON,
         ],
     },
     Form {
@@ -237,6 +246,16 @@ const COMMANDS: &[Form<'static>] = &[
         name: "du",
         about: "Tells how many bytes the files of each folder of a checkpoint have",
         arguments: &[IMAGE, NUMBER, PATH],
+    },
+    Form {
+        name: "df",
+        about: "Tells how many blocks are clean, needed and dead, and how many a backup can write",
+        arguments: &[IMAGE, JSON],
+    },
+    Form {
+        name: "show",
+        about: "Writes a page of HTML on the volume to standard output",
+        arguments: &[IMAGE],
     },
     Form {
         name: "revert",
@@ -264,6 +283,19 @@ const COMMANDS: &[Form<'static>] = &[
         arguments: &[IMAGE, MOST, MOMENT],
     },
     Form {
+        name: "copy",
+        about: "Brings later checkpoints of one image into another one",
+        arguments: &[
+            IMAGE,
+            Argument {
+                name: "IMAGE2",
+                kind: Kind::Word,
+                help: "File that holds the other volume; a new one is made where none is",
+            },
+            MOST,
+        ],
+    },
+    Form {
         name: "forget",
         about: "Removes checkpoints",
         arguments: &[
@@ -278,8 +310,28 @@ const COMMANDS: &[Form<'static>] = &[
         ],
     },
     Form {
+        name: "pin",
+        about: "Lets a checkpoint stay whatever prune is told, as the next snapshot",
+        arguments: &[
+            IMAGE,
+            NUMBER,
+            Argument {
+                name: "TEXT",
+                kind: Kind::OptionalWord,
+                help: "What list tells of it",
+            },
+            Argument {
+                name: "off",
+                kind: Kind::Letter('d'),
+                help: "Takes the pin off",
+            },
+            MOST,
+            MOMENT,
+        ],
+    },
+    Form {
         name: "prune",
-        about: "Removes the checkpoints that no rule keeps",
+        about: "Removes the checkpoints that are not pinned, and that no rule keeps",
         arguments: &[
             IMAGE,
             Argument {
@@ -314,6 +366,31 @@ const COMMANDS: &[Form<'static>] = &[
             },
             DRY_RUN,
             MOMENT,
+        ],
+    },
+    Form {
+        name: "check",
+        about: "Reads every byte of an image, and tells whether it is damaged",
+        arguments: &[
+            IMAGE,
+            Argument {
+                name: "all",
+                kind: Kind::Letter('a'),
+                help: "Tells the later conditions too, as far as they can be judged",
+            },
+            JSON,
+        ],
+    },
+    Form {
+        name: "rescue",
+        about: "Lays out what can be read of each checkpoint of a damaged image",
+        arguments: &[
+            IMAGE,
+            Argument {
+                name: "FOLDER",
+                kind: Kind::Word,
+                help: "Folder that isn't there yet",
+            },
         ],
     },
 ];

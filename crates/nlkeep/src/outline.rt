@@ -5,9 +5,9 @@ use crate::parts::path_said;
 use crate::printing::{Printer, Seen, tell_refused};
 use crate::views::View;
 use clap::ArgMatches;
-use nl_folders::{Name, Path, begins_with};
-use nl_manifests::{HostNode, Opened};
-use nl_types::CheckpointNumber;
+use nl_folders::{Name, Path, begins_with, copied};
+use nl_manifests::{HostObject, Opened};
+use nl_types::{CheckpointNumber, Items};
 use std::alloc::{AllocError, Global};
 use std::io::{self, Write};
 
@@ -190,7 +190,7 @@ fn sums(alloc: Global, all: &[Below<'_>]) -> Result<Vec<u64>, AllocError> {
 }
 
 fn is_folder(below: Below<'_>) -> bool {
-    matches!(below.seen.entry.node, HostNode::Directory)
+    matches!(below.seen.entry.object, HostObject::Directory)
 }
 
 fn is_told(below: Below<'_>) -> bool {
@@ -227,4 +227,36 @@ pub fn du<W: Write>(
         }
     }
     Ok(shown.outcome(rt))
+}
+
+/// A folder, and how many bytes all files have that lie in it, at any depth.
+#[derive(Drop)]
+pub struct FolderSum {
+    pub path: Path,
+    pub bytes: u64,
+}
+
+/// All folders of a kept checkpoint, in the order of their paths.
+pub fn folder_sums(
+    alloc: Global,
+    view: &View<'_>,
+    number: CheckpointNumber,
+) -> Result<Vec<FolderSum>, Fault> {
+    let shown = Shown {
+        number,
+        opened: view.shown(alloc, number)?,
+        top: Items::new(alloc),
+    };
+    let all = shown.seen(alloc, view)?;
+    let sums = sums(alloc, all.as_slice())?;
+    let mut folders = Vec::new(alloc);
+    for (below, sum) in all.iter().zip(sums.iter()) {
+        if is_folder(*below) {
+            folders.push(FolderSum {
+                path: copied(alloc, below.path)?,
+                bytes: *sum,
+            })?;
+        }
+    }
+    Ok(folders)
 }

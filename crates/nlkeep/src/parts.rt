@@ -1,7 +1,7 @@
 //! Paths that words say, and the parts of trees that lie there.
 use crate::faults::{Fault, fault_at};
 use nl_folders::{Name, Path, part_below};
-use nl_manifests::{HostNode, HostTree};
+use nl_manifests::{HostObject, HostTree};
 use nl_types::Items;
 use std::alloc::{AllocError, Global};
 
@@ -43,7 +43,7 @@ fn under_name(alloc: Global, part: HostTree, path: &[Name]) -> Result<HostTree, 
 pub fn part_wanted(alloc: Global, tree: HostTree, word: &str) -> Result<HostTree, Fault> {
     let part = part_said(alloc, tree, word)?;
     match part.as_slice() {
-        [(_, entry), ..] if !matches!(entry.node, HostNode::Directory) => {
+        [(_, entry), ..] if !matches!(entry.object, HostObject::Directory) => {
             let path = path_said(alloc, word)?;
             Ok(under_name(alloc, part, path.as_slice())?)
         }

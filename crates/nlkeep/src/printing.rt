@@ -1,7 +1,7 @@
 //! What goes to standard output and error.
 use nl_folders::{Name, Path, begins_with};
 use nl_host::{LeftOut, Reason};
-use nl_manifests::{Attributes, HostDifference, HostEntry, HostNode, LineFault};
+use nl_manifests::{Attributes, HostDifference, HostEntry, HostObject, LineFault};
 use std::alloc::Global;
 use std::io::{self, IsTerminal, Write};
 use std::str;
@@ -62,6 +62,16 @@ impl<W: Write> Printer<W> {
         Ok(())
     }
 
+    /// That a checkpoint is pinned, and what was noted of it.
+    pub fn pin(&mut self, text: &[u8]) -> io::Result<()> {
+        self.out.write_all(b"  pinned")?;
+        if !text.is_empty() {
+            self.out.write_all(b": ")?;
+            self.name(text)?;
+        }
+        Ok(())
+    }
+
     pub fn line(&mut self) -> io::Result<()> {
         self.out.write_all(b"\n")
     }
@@ -76,7 +86,7 @@ pub struct Seen<'t> {
 }
 
 fn is_folder(seen: Seen<'_>) -> bool {
-    matches!(seen.entry.node, HostNode::Directory)
+    matches!(seen.entry.object, HostObject::Directory)
 }
 
 /// What a line on a difference begins with.
@@ -93,7 +103,7 @@ fn sign(difference: HostDifference) -> char {
 impl<W: Write> Printer<W> {
     /// Where a link leads to.
     fn target(&mut self, seen: Seen<'_>) -> io::Result<()> {
-        if let HostNode::Link(target) = &seen.entry.node {
+        if let HostObject::Link(target) = &seen.entry.object {
             self.out.write_all(b" -> ")?;
             self.name(target.as_slice())?;
         }
@@ -117,8 +127,8 @@ impl<W: Write> Printer<W> {
 
     /// What stands at a path, in a line: how many bytes a file has, and the path.
     pub fn entry(&mut self, path: &[Name], seen: Seen<'_>) -> io::Result<()> {
-        match seen.entry.node {
-            HostNode::File(_) => write!(self.out, "{:>10}  ", seen.size)?,
+        match seen.entry.object {
+            HostObject::File(_) => write!(self.out, "{:>10}  ", seen.size)?,
             _ => write!(self.out, "{:>10}  ", "")?,
         }
         self.place(path, seen)?;
@@ -128,10 +138,10 @@ impl<W: Write> Printer<W> {
     /// What stands at a path, if anything, in a line without the path.
     pub fn standing(&mut self, seen: Option<Seen<'_>>) -> io::Result<()> {
         match seen {
-            Some(seen) => match &seen.entry.node {
-                HostNode::File(_) => write!(self.out, "{:>10} bytes", seen.size)?,
-                HostNode::Directory => write!(self.out, "folder")?,
-                HostNode::Link(target) => {
+            Some(seen) => match &seen.entry.object {
+                HostObject::File(_) => write!(self.out, "{:>10} bytes", seen.size)?,
+                HostObject::Directory => write!(self.out, "folder")?,
+                HostObject::Link(target) => {
                     self.out.write_all(b"-> ")?;
                     self.name(target.as_slice())?;
                 }
@@ -143,17 +153,17 @@ impl<W: Write> Printer<W> {
 
     /// What stood there before.
     fn earlier(&mut self, old: Seen<'_>) -> io::Result<()> {
-        match old.entry.node {
-            HostNode::Directory => write!(self.out, "a folder before"),
-            HostNode::Link(_) => write!(self.out, "a link before"),
-            HostNode::File(_) => write!(self.out, "a file of {} bytes before", old.size),
+        match old.entry.object {
+            HostObject::Directory => write!(self.out, "a folder before"),
+            HostObject::Link(_) => write!(self.out, "a link before"),
+            HostObject::File(_) => write!(self.out, "a file of {} bytes before", old.size),
         }
     }
 
     /// How many bytes a file has, and what else stood there.
     fn replaced(&mut self, old: Seen<'_>, new: Seen<'_>) -> io::Result<()> {
         self.out.write_all(b" (")?;
-        if let HostNode::File(_) = new.entry.node {
+        if let HostObject::File(_) = new.entry.object {
             write!(self.out, "{} bytes, ", new.size)?;
         }
         self.earlier(old)?;
@@ -162,8 +172,8 @@ impl<W: Write> Printer<W> {
 
     /// How many bytes a file has.
     fn size(&mut self, seen: Seen<'_>) -> io::Result<()> {
-        match seen.entry.node {
-            HostNode::File(_) => write!(self.out, " ({} bytes)", seen.size),
+        match seen.entry.object {
+            HostObject::File(_) => write!(self.out, " ({} bytes)", seen.size),
             _ => Ok(()),
         }
     }
@@ -184,7 +194,7 @@ impl<W: Write> Printer<W> {
 
     /// What is other of two entries of one kind.
     fn changed(&mut self, old: Seen<'_>, new: Seen<'_>) -> io::Result<()> {
-        if let HostNode::Link(target) = &old.entry.node {
+        if let HostObject::Link(target) = &old.entry.object {
             if !is_to(new, target.as_slice()) {
                 self.out.write_all(b" (to ")?;
                 self.name(target.as_slice())?;
@@ -235,8 +245,8 @@ impl<W: Write> Printer<W> {
 
 /// Whether it is a link that leads there.
 fn is_to(seen: Seen<'_>, target: &[u8]) -> bool {
-    match &seen.entry.node {
-        HostNode::Link(to) => to.as_slice() == target,
+    match &seen.entry.object {
+        HostObject::Link(to) => to.as_slice() == target,
         _ => false,
     }
 }
@@ -315,6 +325,11 @@ pub fn tell_paths_left_out(rt: &HostRuntime, all: &[(Path, Reason)]) {
             return;
         }
     }
+}
+
+/// Tells that the file of pins is none.
+pub fn tell_no_pins(rt: &HostRuntime) {
+    let _ = eprintln!(rt; "nlkeep: left out: /.nlkeep-pins: a file of pins that is none");
 }
 
 /// A path of a volume for a line on standard error, where control characters of names would do harm.

@@ -1,15 +1,17 @@
 //! `prune`: checkpoints are removed that no rule keeps, snapshots too.
 use crate::asking::{Clock, Outcome, moment, most, word};
-use crate::checkpoints::{is_minor, rows};
+use crate::checkpoints::is_minor;
 use crate::faults::{Fault, fault_at, volume_fault};
 use crate::images::{device_for, open_image, read_image, save_image, take_place};
 use crate::moments::{periods, shown};
 use crate::printing::Printer;
 use crate::rounds::Round;
-use crate::views::{latest_stamp, tell_late};
+use crate::views::View;
 use clap::ArgMatches;
 use jiff::tz::TimeZone;
-use nl_keep_pen::forget_image;
+use nl_device::MemDevice;
+use nl_keep_pen::{PenVolume, forget_image};
+use nl_pins::Pins;
 use nl_retention::{Dated, Rules, descends, expired};
 use nl_types::{CheckpointNumber, Items, Row, VolError, decimal};
 use std::alloc::Global;
@@ -47,13 +49,18 @@ fn rules_said(alloc: Global, matches: &ArgMatches<'_>) -> Result<Rules, Fault> {
 }
 
 /// The checkpoints as rules see them, the newest first. Minor ones are the cleaner's, and no rule counts them.
-fn dated_rows(alloc: Global, rows: &[Row], zone: TimeZone<'_>) -> Result<Vec<Dated>, Fault> {
+fn dated_rows(
+    alloc: Global,
+    rows: &[Row],
+    pins: &Pins,
+    zone: TimeZone<'_>,
+) -> Result<Vec<Dated>, Fault> {
     let mut dated = Vec::new(alloc);
     for row in rows.iter().rev() {
         if !is_minor(row) {
             dated.push(Dated {
                 number: row.number,
-                is_pinned: false,
+                is_pinned: pins.text(row.number).is_some(),
                 periods: periods(zone, row.stamp),
             })?;
         }
@@ -61,14 +68,15 @@ fn dated_rows(alloc: Global, rows: &[Row], zone: TimeZone<'_>) -> Result<Vec<Dat
     Ok(dated)
 }
 
-/// The checkpoints that no rule keeps, by the rows of all kept ones.
+/// The checkpoints that are not pinned, and that no rule keeps.
 fn unkept(
     alloc: Global,
     rules: &Rules,
-    rows: &[Row],
+    view: &View<'_>,
     zone: TimeZone<'_>,
 ) -> Result<Vec<CheckpointNumber>, Fault> {
-    let dated = dated_rows(alloc, rows, zone)?;
+    let pins = view.sound_pins(alloc)?;
+    let dated = dated_rows(alloc, view.rows.as_slice(), &pins, zone)?;
     if !descends(dated.as_slice()) {
         // No volume lists them otherwise.
         return Ok(Vec::new(alloc));
@@ -87,15 +95,27 @@ impl Pruning {
     fn of(
         rt: &HostRuntime,
         path: &str,
+        volume: &mut PenVolume<MemDevice>,
+        rules: &Rules,
+        clock: Clock<'_>,
+    ) -> Result<Pruning, Fault> {
+        let view = View::of(rt, path, volume, clock)?;
+        let going = unkept(rt.alloc(), rules, &view, clock.zone)?;
+        let rows = view.rows;
+        Ok(Pruning { rows, going })
+    }
+
+    fn of_image(
+        rt: &HostRuntime,
+        path: &str,
         image: &[u8],
         rules: &Rules,
         clock: Clock<'_>,
     ) -> Result<Pruning, Fault> {
-        let alloc = rt.alloc();
-        let rows = image_rows(alloc, path, image)?;
-        tell_late(rt, path, clock, latest_stamp(rows.as_slice()))?;
-        let going = unkept(alloc, rules, rows.as_slice(), clock.zone)?;
-        Ok(Pruning { rows, going })
+        match open_image(rt.alloc(), path, image) {
+            Ok(pen) => Pruning::of(rt, path, &mut PenVolume { pen }, rules, clock),
+            Err(fault) => Err(fault),
+        }
     }
 
     /// Tells of each checkpoint that goes, the oldest first.
@@ -115,19 +135,12 @@ impl Pruning {
     }
 }
 
-/// What is told of the checkpoints of an image.
-fn image_rows(alloc: Global, path: &str, image: &[u8]) -> Result<Items<Row>, Fault> {
-    match open_image(alloc, path, image) {
-        Ok(mut pen) => rows(alloc, path, &mut pen),
-        Err(fault) => Err(fault),
-    }
-}
-
-/// Tells how many segments of an image are clean.
+/// Tells how many segments of an image are clean, or would be.
 fn tell_clean<W: Write>(
     alloc: Global,
     path: &str,
     image: &[u8],
+    are: &str,
     printer: &mut Printer<W>,
 ) -> Result<(), Fault> {
     match open_image(alloc, path, image) {
@@ -135,7 +148,7 @@ fn tell_clean<W: Write>(
             let stat = pen.segments().sustat();
             writeln!(
                 printer.out,
-                "{} of {} segments are clean",
+                "{} of {} segments {are} clean",
                 stat.clean, stat.segments
             )?;
             Ok(())
@@ -174,23 +187,29 @@ fn tell_all<W: Write>(
     Ok(())
 }
 
-/// Tells what `prune` would do.
+/// Tells what `prune` would do: it is done, but nothing is saved.
 fn try_prune<W: Write>(
     rt: &HostRuntime,
     path: &str,
     rules: &Rules,
     clock: Clock<'_>,
+    moment: u64,
     printer: &mut Printer<W>,
 ) -> Result<Outcome, Fault> {
+    let alloc = rt.alloc();
     let image = read_image(rt, path)?;
-    let pruning = Pruning::of(rt, path, image.as_slice(), rules, clock)?;
-    tell_all(
-        rt.alloc(),
-        &pruning,
-        clock.zone,
-        "would be removed",
-        printer,
-    )?;
+    let pruning = Pruning::of_image(rt, path, image.as_slice(), rules, clock)?;
+    tell_all(alloc, &pruning, clock.zone, "would be removed", printer)?;
+    if !pruning.going.is_empty() {
+        let next = without(
+            alloc,
+            path,
+            image.as_slice(),
+            pruning.going.as_slice(),
+            moment,
+        )?;
+        tell_clean(alloc, path, next.as_slice(), "would be", printer)?;
+    }
     Ok(Outcome::Done)
 }
 
@@ -207,7 +226,7 @@ fn told_of(
         is_terminal: false,
     };
     tell_all(alloc, pruning, zone, "removed", &mut printer)?;
-    tell_clean(alloc, path, image, &mut printer)?;
+    tell_clean(alloc, path, image, "are", &mut printer)?;
     Ok(printer.out)
 }
 
@@ -224,11 +243,12 @@ pub fn prune<W: Write>(
     let rules = rules_said(alloc, matches)?;
     let moment = moment(rt, matches, clock.now)?;
     if matches.get_flag("dry-run") {
-        return try_prune(rt, path, &rules, clock, printer);
+        return try_prune(rt, path, &rules, clock, moment, printer);
     }
     let mut place = take_place(rt, path)?;
     let image = read_image(rt, path)?;
-    let pruning = Pruning::of(rt, path, image.as_slice(), &rules, clock)?;
+    let pruning = Pruning::of_image(rt, path, image.as_slice(), &rules, clock)?;
+    let mut saved = Outcome::Done;
     if !pruning.going.is_empty() {
         let next = without(
             alloc,
@@ -239,10 +259,10 @@ pub fn prune<W: Write>(
         )?;
         // All that is told takes its memory before the image is saved.
         let told = told_of(alloc, path, &pruning, clock.zone, next.as_slice())?;
-        save_image(rt, path, &mut place, next.as_slice())?;
+        saved = save_image(rt, path, &mut place, next.as_slice())?;
         printer.out.write_all(told.as_slice())?;
     } else {
         writeln!(printer.out, "0 checkpoints removed")?;
     }
-    Ok(Outcome::Done)
+    Ok(saved)
 }

@@ -32,7 +32,7 @@ fn make_folder(rt: &HostRuntime, folder: &str) -> Result<(), Fault> {
 }
 
 /// Lays out a tree in a folder, and sets the attributes of all that is in it. Answers what was left out.
-fn put_all(
+pub fn put_all(
     rt: &HostRuntime,
     folder: &str,
     part: &[(Path, HostEntry)],

@@ -103,15 +103,10 @@ pub fn revert<W: Write>(
     let moment = moment(rt, matches, clock.now)?;
     let most = most(rt, matches)?;
     let mut progress = Progress::begin(rt);
-    let reverted = revert_in_image(rt, matches, clock)?;
+    let Reverted { tree, is_whole } = revert_in_image(rt, matches, clock)?;
     progress.tell("storing");
-    let wanted = Wanted {
-        tree: reverted.tree.as_slice(),
-        moment,
-        most,
-    };
+    let wanted = Wanted { tree, moment, most };
     let kept = keep(rt, path, clock, wanted, &mut place, printer);
     progress.end();
-    kept?;
-    Ok(Outcome::of(reverted.is_whole))
+    Ok(kept?.and(Outcome::of(is_whole)))
 }

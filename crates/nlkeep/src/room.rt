@@ -11,7 +11,8 @@ use nl_folders::{Path, all_differences, find_in};
 use nl_keep::laws;
 use nl_keep_pen::{PenVolume, Preparing, Tidying};
 use nl_sufile::Sustat;
-use nl_types::{BLOCK_SIZE, Event, MAX_PAYLOAD, Node, Reply, VolError};
+use nl_types::limits::SEGMENT_LIMIT;
+use nl_types::{BLOCK_SIZE, Event, MAX_PAYLOAD, Object, Reply, VolError};
 use std::alloc::{AllocError, Global};
 
 /// How many blocks of a log there are for each summary block, at most.
@@ -54,9 +55,9 @@ fn other_blocks(old: &[u8], new: &[u8]) -> u64 {
 }
 
 /// How many blocks a file takes whose bytes are new: data, and the nodes above it.
-fn file_blocks(old: Option<&Node>, new: &[u8]) -> u64 {
+fn file_blocks(old: Option<&Object>, new: &[u8]) -> u64 {
     let data = match old {
-        Some(Node::File(old)) => other_blocks(old.as_slice(), new),
+        Some(Object::File(old)) => other_blocks(old.as_slice(), new),
         _ => other_blocks(&[], new),
     };
     let nodes = (new.len() as u64)
@@ -65,18 +66,20 @@ fn file_blocks(old: Option<&Node>, new: &[u8]) -> u64 {
     data.saturating_add(nodes.min(data)).saturating_add(2)
 }
 
-/// How many blocks of directories a tree has at most.
-fn directory_blocks(tree: &[(Path, Node)]) -> u64 {
+/// How many blocks of directories a tree has at most: each directory has a node, and a block that isn't full.
+fn directory_blocks(tree: &[(Path, Object)]) -> u64 {
     let mut bytes: u64 = 0;
     let mut directories: u64 = 0;
-    for (path, node) in tree {
+    for (path, object) in tree {
         let length = path.as_slice().last().map_or(0, |name| name.len() as u64);
         bytes = bytes.saturating_add(length.saturating_add(RECORD_BYTES));
-        if matches!(node, Node::Dir) {
+        if matches!(object, Object::Dir) {
             directories = directories.saturating_add(1);
         }
     }
-    directories.saturating_add(bytes.div_ceil(BLOCK_SIZE as u64))
+    directories
+        .saturating_mul(2)
+        .saturating_add(bytes.div_ceil(BLOCK_SIZE as u64))
 }
 
 /// How many blocks of the file of inodes change with so many inodes of a tree of so many.
@@ -89,14 +92,14 @@ fn inode_blocks(changed: u64, all: u64) -> u64 {
 /// How many blocks the calls write, at most, that make a tree another.
 fn blocks_between(
     alloc: Global,
-    old: &[(Path, Node)],
-    new: &[(Path, Node)],
+    old: &[(Path, Object)],
+    new: &[(Path, Object)],
 ) -> Result<u64, AllocError> {
     let differences = all_differences(alloc, old, new)?;
     let mut blocks: u64 = 0;
     for (path, _) in differences.as_slice() {
         let earlier = find_in(old, path.as_slice());
-        if let Some(Node::File(bytes)) = find_in(new, path.as_slice()) {
+        if let Some(Object::File(bytes)) = find_in(new, path.as_slice()) {
             blocks = blocks.saturating_add(file_blocks(earlier, bytes.as_slice()));
         }
     }
@@ -106,11 +109,20 @@ fn blocks_between(
     Ok(blocks.saturating_add(tables))
 }
 
+/// How many blocks a segment has beside the summaries of its logs. A last block alone has no place for a log.
+fn payload_of(segment_blocks: u64) -> u64 {
+    let (logs, rest) = (
+        segment_blocks / (PAYLOAD + 1),
+        segment_blocks % (PAYLOAD + 1),
+    );
+    logs.saturating_mul(PAYLOAD)
+        .saturating_add(rest.saturating_sub(1))
+}
+
 /// How many segments so many blocks take, with the summaries of their logs.
 fn segments_for(blocks: u64, segment_blocks: u64) -> u64 {
-    let with_summaries = blocks.saturating_add(blocks.div_ceil(PAYLOAD));
-    with_summaries
-        .div_ceil(segment_blocks.max(1))
+    blocks
+        .div_ceil(payload_of(segment_blocks).max(1))
         .saturating_add(SPARE)
 }
 
@@ -118,7 +130,7 @@ fn segments_for(blocks: u64, segment_blocks: u64) -> u64 {
 #[derive(Clone, Copy)]
 pub struct Room<'t> {
     alloc: Global,
-    wanted: &'t [(Path, Node)],
+    wanted: &'t [(Path, Object)],
     moment: u64,
     /// The most bytes that the volume may have.
     most: u64,
@@ -126,12 +138,10 @@ pub struct Room<'t> {
     is_second: bool,
     /// How many bytes the volume had, and what it has where it was grown.
     pub grown: Option<(u64, u64)>,
-    /// The stamp of the latest checkpoint before.
-    pub latest: u64,
 }
 
 impl<'t> Room<'t> {
-    pub fn new(alloc: Global, wanted: &'t [(Path, Node)], moment: u64, most: u64) -> Room<'t> {
+    pub fn new(alloc: Global, wanted: &'t [(Path, Object)], moment: u64, most: u64) -> Room<'t> {
         Room {
             alloc,
             wanted,
@@ -139,7 +149,6 @@ impl<'t> Room<'t> {
             most,
             is_second: false,
             grown: None,
-            latest: 0,
         }
     }
 
@@ -160,6 +169,7 @@ impl<'t> Room<'t> {
         let more = lacking.max(base / 4).max(1);
         base.saturating_add(more)
             .min(self.most / segment_bytes.max(1))
+            .min(u64::from(SEGMENT_LIMIT))
     }
 
     /// Grows the volume, where it isn't as great already.
@@ -209,7 +219,7 @@ impl<'t> Room<'t> {
     fn make_room<D: Device>(
         &mut self,
         pen: &mut Pen<D>,
-        earlier: &[(Path, Node)],
+        earlier: &[(Path, Object)],
     ) -> Result<(), VolError>
         ensures { OnOk result (LeadsTo KeepsOwn (MeansWorld pen.old) (MeansWorld pen.new)) }
     {
@@ -235,9 +245,8 @@ impl Preparing for Room<'_> {
     fn prepare<D: Device>(
         &mut self,
         volume: &mut PenVolume<D>,
-        earlier: &[(Path, Node)],
+        earlier: &[(Path, Object)],
     ) -> Result<(), VolError> {
-        self.latest = volume.pen.cpinfo(volume.pen.latest())?.stamp;
         self.clean_again(volume)?;
         self.make_room(&mut volume.pen, earlier)
     }

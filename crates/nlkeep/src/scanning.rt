@@ -1,11 +1,14 @@
 //! The folder of the host that is kept.
 use crate::faults::{Fault, fault_at, system_fault, volume_fault};
+use crate::parts::path_said;
 use crate::progress::{Progress, Reading};
-use nl_folders::{FolderError, Path as TreePath, Tree};
-use nl_host::{HostFolder, LeftOut, Pattern, Selection, TooBig, read_folder};
-use nl_manifests::{HostEntry, SealError, seal};
+use crate::sums::sum_path;
+use nl_folders::{FolderError, Path as TreePath, Tree, begins_with};
+use nl_host::{HostFolder, LeftOut, Pattern, Reason, Selection, TooBig, read_folder};
+use nl_manifests::{HostEntry, HostObject, HostTree, SealError, seal};
+use nl_pins::is_of_pins;
 use nl_types::limits::VOLUME_BLOCK_LIMIT;
-use nl_types::{BLOCK_SIZE, VolError};
+use nl_types::{BLOCK_SIZE, Items, VolError};
 use std::alloc::{AllocError, Global};
 use std::path::{Path, PathBuf};
 use std::{fs, io};
@@ -91,6 +94,73 @@ fn sealed(alloc: Global, folder: &str, host: &[(TreePath, HostEntry)]) -> Result
     }
 }
 
+/// The names from a folder to the file of the image's sum, if that stands below.
+fn path_of_sum(
+    alloc: Global,
+    folder: &str,
+    selection: Selection<'_>,
+) -> Result<Option<TreePath>, AllocError> {
+    let Some(rest) = selection.image_folder.strip_prefix(folder) else {
+        return Ok(None);
+    };
+    if !rest.is_empty() && !rest.starts_with('/') && folder != "/" {
+        return Ok(None);
+    }
+    let name = sum_path(alloc, selection.image_name)?;
+    let mut path = path_said(alloc, rest)?;
+    path.push(Items::from_slice(alloc, name.as_bytes())?)?;
+    Ok(Some(path))
+}
+
+/// Leaves the file of the image's sum out of what was read of a folder.
+fn without_sum(
+    alloc: Global,
+    folder: &str,
+    selection: Selection<'_>,
+    tree: HostTree,
+    left_out: &mut Vec<LeftOut>,
+) -> Result<HostTree, AllocError> {
+    let Some(sum) = path_of_sum(alloc, folder, selection)? else {
+        return Ok(tree);
+    };
+    let mut kept = Items::new(alloc);
+    for (path, entry) in tree.into_vec() {
+        let is_file = matches!(entry.object, HostObject::File(_));
+        if is_file && begins_with(path.as_slice(), sum.as_slice()) {
+            let (folder, name) = (selection.image_folder, selection.image_name);
+            left_out.push(LeftOut {
+                path: format!(in alloc; "{folder}/{name}.sum")?,
+                reason: Reason::Image,
+            })?;
+        } else {
+            kept.push((path, entry))?;
+        }
+    }
+    Ok(kept)
+}
+
+/// What was read of a folder without what has the name of the file of pins, which is left out.
+fn without_reserved(
+    alloc: Global,
+    folder: &str,
+    tree: HostTree,
+    left_out: &mut Vec<LeftOut>,
+) -> Result<HostTree, AllocError> {
+    let mut rest = Items::new(alloc);
+    for (path, entry) in tree.into_vec() {
+        if !is_of_pins(path.as_slice()) {
+            rest.push((path, entry))?;
+        } else if path.len() == 1 {
+            let path = format!(in alloc; "{}/.nlkeep-pins", folder.trim_end_matches('/'))?;
+            left_out.push(LeftOut {
+                path,
+                reason: Reason::Reserved,
+            })?;
+        }
+    }
+    Ok(rest)
+}
+
 /// All that is to be kept of a folder, and what is left out.
 ///
 /// # Errors
@@ -112,10 +182,13 @@ fn scan_below(
         return Err(told(too_many_text(alloc, folder, host.bytes)));
     }
     match read {
-        Ok(tree) => Ok(Scan {
-            tree: sealed(alloc, folder, tree.as_slice())?,
-            left_out: host.left_out,
-        }),
+        Ok(tree) => {
+            let mut left_out = host.left_out;
+            let tree = without_sum(alloc, folder, selection, tree, &mut left_out)?;
+            let tree = without_reserved(alloc, folder, tree, &mut left_out)?;
+            let tree = sealed(alloc, folder, tree.as_slice())?;
+            Ok(Scan { tree, left_out })
+        }
         Err(error) => {
             let path = host.failed_at.as_ref().map_or(folder, String::as_str);
             Err(scan_fault(alloc, path, error))

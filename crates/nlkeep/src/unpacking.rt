@@ -3,7 +3,8 @@ use crate::faults::{Fault, fault_at};
 use crate::printing::path_text;
 use nl_folders::{Name, Path, Tree, begins_with, copied};
 use nl_host::Reason;
-use nl_manifests::{Attributes, HostEntry, HostNode, HostTree, SealError, Time, seal};
+use nl_manifests::{Attributes, HostEntry, HostObject, HostTree, SealError, Time, seal};
+use nl_pins::is_of_pins;
 use nl_tar::{ArchiveError, Fault as ArchiveFault, InputError, Refusal, Unpacked};
 use nl_types::limits::{FILE_LIMIT, PATH_LENGTH_LIMIT, VOLUME_BLOCK_LIMIT};
 use nl_types::{BLOCK_SIZE, Items};
@@ -53,27 +54,27 @@ fn path_bytes(path: &[Name]) -> usize {
 }
 
 /// How many bytes the longest path has that an entry needs: a folder needs that of its manifest too.
-fn needed_bytes(path: &[Name], node: &HostNode) -> usize {
+fn needed_bytes(path: &[Name], object: &HostObject) -> usize {
     let bytes = path_bytes(path);
-    match node {
-        HostNode::Directory => bytes.saturating_add(MANIFEST_BYTES),
+    match object {
+        HostObject::Directory => bytes.saturating_add(MANIFEST_BYTES),
         _ => bytes,
     }
 }
 
-/// Whether a path has the name of a manifest.
+/// Whether a path has the name of a manifest, or that of the file of pins.
 fn is_reserved(path: &[Name]) -> bool {
     match path {
-        [.., name] => name.as_slice() == MANIFEST,
+        [.., name] => name.as_slice() == MANIFEST || is_of_pins(path),
         [] => false,
     }
 }
 
 /// Why an entry isn't kept, if it isn't.
-fn why_left_out(path: &[Name], node: &HostNode) -> Option<Reason> {
+fn why_left_out(path: &[Name], object: &HostObject) -> Option<Reason> {
     if is_reserved(path) {
         Some(Reason::Reserved)
-    } else if needed_bytes(path, node) > PATH_LENGTH_LIMIT {
+    } else if needed_bytes(path, object) > PATH_LENGTH_LIMIT {
         Some(Reason::LongPath)
     } else {
         None
@@ -83,7 +84,7 @@ fn why_left_out(path: &[Name], node: &HostNode) -> Option<Reason> {
 /// An entry with the attributes that an archive tells of it, or the usual ones.
 fn with_attributes(entry: HostEntry) -> HostEntry {
     HostEntry {
-        node: entry.node,
+        object: entry.object,
         attributes: Some(entry.attributes.unwrap_or(USUAL)),
     }
 }
@@ -107,7 +108,7 @@ fn kept_entries(
         if is_below_last(path.as_slice(), left_out.as_slice()) {
             continue;
         }
-        match why_left_out(path.as_slice(), &entry.node) {
+        match why_left_out(path.as_slice(), &entry.object) {
             Some(reason) => left_out.push((path, reason))?,
             None => kept.push((path, with_attributes(entry)))?,
         }
@@ -128,9 +129,9 @@ fn note_special(
 
 // ---- limits
 
-fn file_bytes(node: &HostNode) -> u64 {
-    match node {
-        HostNode::File(bytes) => bytes.len() as u64,
+fn file_bytes(object: &HostObject) -> u64 {
+    match object {
+        HostObject::File(bytes) => bytes.len() as u64,
         _ => 0,
     }
 }
@@ -163,7 +164,7 @@ fn too_much_fault(alloc: Global, bytes: u64) -> Fault {
 fn judge_sizes(alloc: Global, tree: &[(Path, HostEntry)]) -> Result<(), Fault> {
     let mut all: u64 = 0;
     for (path, entry) in tree {
-        let bytes = file_bytes(&entry.node);
+        let bytes = file_bytes(&entry.object);
         if bytes > FILE_LIMIT {
             return Err(great_file_fault(alloc, path.as_slice(), bytes));
         }

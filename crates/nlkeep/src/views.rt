@@ -9,8 +9,9 @@ use nl_device::MemDevice;
 use nl_folders::{Folder, FolderError, Name, Path, Tree, copied, find_in, spelled};
 use nl_keep::{CheckpointFolder, Volume, checkpoint_tree};
 use nl_keep_pen::{PenVolume, is_manifest_path, unread_tree};
-use nl_manifests::{HostEntry, HostNode, HostTree, Opened, open};
-use nl_types::{Answer, Ask, CheckpointNumber, Items, Node, Reply, Row, Stat, VolError};
+use nl_manifests::{HostEntry, HostObject, HostTree, Opened, open};
+use nl_pins::{Pins, is_of_pins, path_of_pins, without_pins};
+use nl_types::{Answer, Ask, CheckpointNumber, Items, Object, Reply, Row, Stat, VolError};
 use std::alloc::{AllocError, Global};
 
 /// The volume of an image.
@@ -69,10 +70,31 @@ impl<'a> View<'a> {
         }
     }
 
-    fn tree_of(&self, alloc: Global, number: CheckpointNumber) -> Result<Tree, Fault> {
+    /// The tree of a kept checkpoint, without its pins.
+    pub fn tree_of(&self, alloc: Global, number: CheckpointNumber) -> Result<Tree, Fault> {
         match checkpoint_tree(alloc, self.volume, number) {
-            Ok(tree) => Ok(tree),
+            Ok(tree) => Ok(without_pins(alloc, tree)?),
             Err(error) => Err(tree_fault(alloc, self.path, error)),
+        }
+    }
+
+    /// What is pinned. None where the file of pins is none.
+    pub fn pins(&self, alloc: Global) -> Result<Option<Pins>, Fault> {
+        match pins_file(alloc, self.path, self.volume)? {
+            Some(bytes) => Ok(Pins::read(alloc, bytes.as_slice())?),
+            None => Ok(Some(Pins::none(alloc))),
+        }
+    }
+
+    /// The same. It is refused where the file is none.
+    pub fn sound_pins(&self, alloc: Global) -> Result<Pins, Fault> {
+        match self.pins(alloc)? {
+            Some(pins) => Ok(pins),
+            None => Err(fault_at(
+                alloc,
+                self.path,
+                "has a file .nlkeep-pins that is none of pins",
+            )),
         }
     }
 
@@ -93,7 +115,7 @@ impl<'a> View<'a> {
     /// What a kept checkpoint shows, but for the bytes of files: of these, manifests alone are read.
     pub fn shown(&self, alloc: Global, number: CheckpointNumber) -> Result<Opened, Fault> {
         match unread_tree(alloc, self.volume, number) {
-            Ok(tree) => Ok(open(alloc, tree.as_slice())?),
+            Ok(tree) => Ok(open(alloc, without_pins(alloc, tree)?.as_slice())?),
             Err(error) => Err(tree_fault(alloc, self.path, error)),
         }
     }
@@ -135,8 +157,8 @@ impl<'a> View<'a> {
         path: &[Name],
         entry: &'t HostEntry,
     ) -> Result<Seen<'t>, Fault> {
-        let size = match &entry.node {
-            HostNode::File(_) => self.size(alloc, number, path)?,
+        let size = match &entry.object {
+            HostObject::File(_) => self.size(alloc, number, path)?,
             _ => 0,
         };
         Ok(Seen { entry, size })
@@ -156,7 +178,7 @@ impl<'a> View<'a> {
         }
     }
 
-    /// The tree of the latest checkpoint of all.
+    /// The tree of the latest checkpoint of all, without its pins.
     pub fn present_tree(&self, alloc: Global) -> Result<Tree, Fault> {
         self.tree_of(alloc, self.volume.pen.latest())
     }
@@ -179,18 +201,39 @@ fn is_of_no_entry(error: VolError) -> bool {
     )
 }
 
-/// What a tree shows, but for the bytes of files.
-pub fn shown_alone(alloc: Global, tree: &[(Path, Node)]) -> Result<HostTree, AllocError> {
+/// The bytes of the file that has the pins of a volume, none where there is no such file. Pins are read of the
+/// current tree alone.
+pub fn pins_file(
+    alloc: Global,
+    path: &str,
+    volume: &PenVolume<MemDevice>,
+) -> Result<Option<Items<u8>>, Fault> {
+    let mut folder = CheckpointFolder {
+        volume,
+        number: volume.pen.latest(),
+    };
+    match folder.read(alloc, path_of_pins(alloc)?.as_slice()) {
+        Ok(bytes) => Ok(Some(bytes)),
+        Err(FolderError::Refused(VolError::NotFound | VolError::IsDir)) => Ok(None),
+        Err(error) => Err(tree_fault(alloc, path, error)),
+    }
+}
+
+/// What a tree shows, but for the bytes of files. Pins are no part of it.
+pub fn shown_alone(alloc: Global, tree: &[(Path, Object)]) -> Result<HostTree, AllocError> {
     let mut alone = Items::new(alloc);
-    for (path, node) in tree {
-        let node = match node {
-            Node::Dir => Node::Dir,
-            Node::File(bytes) if is_manifest_path(path.as_slice()) => {
-                Node::File(Items::from_slice(alloc, bytes.as_slice())?)
+    for (path, object) in tree {
+        if is_of_pins(path.as_slice()) {
+            continue;
+        }
+        let object = match object {
+            Object::Dir => Object::Dir,
+            Object::File(bytes) if is_manifest_path(path.as_slice()) => {
+                Object::File(Items::from_slice(alloc, bytes.as_slice())?)
             }
-            Node::File(_) => Node::File(Items::new(alloc)),
+            Object::File(_) => Object::File(Items::new(alloc)),
         };
-        alone.push((copied(alloc, path.as_slice())?, node))?;
+        alone.push((copied(alloc, path.as_slice())?, object))?;
     }
     Ok(open(alloc, alone.as_slice())?.tree)
 }

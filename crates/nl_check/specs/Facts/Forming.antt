@@ -4,12 +4,12 @@ use Rattle.std.specs.Option.{is_some, option_map, option_and_then, option_zip}
 use Rattle.std.specs.FinMap.{find}
 use Rattle.std.proofs.Common.{sym, ◌∙◌, ap, arith}
 use Rattle.std.proofs.lemmas.List.{reverse-reverse}
-use Rattle.nl_types.specs.declared.reply.Node.{Node}
-use Rattle.nl_types.specs.declared.reply.Node.TheVariants.{Dir, File}
+use Rattle.nl_types.specs.declared.reply.Object.{Object}
+use Rattle.nl_types.specs.declared.reply.Object.TheVariants.{Dir, File}
 use Rattle.nl_types.specs.declared.kind.Kind.{Kind}
 use Rattle.nl_types.specs.Plain.Paths.{Name, Path, path_cmp, same_path}
-use Rattle.nl_types.specs.Plain.Trees.{Tree, lookup, node_kind, in_order}
-use Rattle.nl_types.specs.Inodes.{Link, InodeContent, Bytes, Records, Inodes, MeansTree, upward, IsRooted, Pairs, record_of, reached, node_of, found_node, inode_named}
+use Rattle.nl_types.specs.Plain.Trees.{Tree, lookup, object_kind, in_order}
+use Rattle.nl_types.specs.Inodes.{Link, InodeContent, Bytes, Records, Inodes, MeansTree, upward, IsRooted, Pairs, record_of, reached, object_of, found_object, inode_named}
 use Rattle.nl_types.specs.InodeChanges.{HasRecords}
 use Rattle.nl_types.specs.InodeLaws.{MeansPaths}
 use Rattle.nl_check.specs.InodeTrees.{AreBelow, FormTree, FormedTreesAreMeant, MeantTreesAreFormed, Names, used_below}
@@ -29,9 +29,9 @@ module _ (inodes : Inodes) (tree : Tree) (m : MeansTree inodes tree) where
     pub path : Path
     pub of_directory : m.inode_of path ≡ Some d
     pub of_child : m.inode_of (name ∷ path) ≡ Some link.0
-    pub node : Node
-    pub is : upward tree (name ∷ path) ≡ Some node
-    pub kind : node_kind node ≡ link.1
+    pub object : Object
+    pub is : upward tree (name ∷ path) ≡ Some object
+    pub kind : object_kind object ≡ link.1
 
   -- where a record's inode stands
   at : (d : ℕ) (name : Name) (link : Link) → Names inodes d name link → At d name link
@@ -45,7 +45,7 @@ module _ (inodes : Inodes) (tree : Tree) (m : MeansTree inodes tree) where
       let same : Some (Records own.0) ≡ Some (Records n.records) = sym own.1 ∙ n.directory in
       let listed : own.0 name ≡ Some link = alike own.0 n.records same name ∙ n.listed in
       let z = zipped (m.inode_of (name ∷ p.0)) (upward tree (name ∷ p.0)) link (sym (own.2 name) ∙ listed) in
-      record { path = p.0; of_directory = p.1; of_child = z.0; node = z.1; is = z.2; kind = z.3 }
+      record { path = p.0; of_directory = p.1; of_child = z.0; object = z.1; is = z.2; kind = z.3 }
     where
       records_in : InodeContent → Name → Option Link
       records_in (Bytes bytes) = λ _. None
@@ -54,9 +54,9 @@ module _ (inodes : Inodes) (tree : Tree) (m : MeansTree inodes tree) where
       alike : (a b : Name → Option Link) → Some (Records a) ≡ Some (Records b) → (n : Name) → a n ≡ b n
       alike a b e n = ap (λ (o : Option InodeContent). option_and_then (λ c. records_in c n) o) e
 
-  -- what a node's inode holds
-  held : (p : Path) (i : ℕ) (x : Node) → m.inode_of p ≡ Some i → upward tree p ≡ Some x
-      → (c : InodeContent) × (inodes i ≡ Some c) × (node_of c ≡ x)
+  -- what an object's inode holds
+  held : (p : Path) (i : ℕ) (x : Object) → m.inode_of p ≡ Some i → upward tree p ≡ Some x
+      → (c : InodeContent) × (inodes i ≡ Some c) × (object_of c ≡ x)
   held p i Dir of is = let d = m.pairs.directory p i is of in (Records d.0, d.1, refl)
   held p i (File bytes) of is = (Bytes bytes, m.pairs.file p i bytes is of, refl)
 
@@ -66,8 +66,8 @@ module _ (inodes : Inodes) (tree : Tree) (m : MeansTree inodes tree) where
     root = let d = m.pairs.directory [] 2 m.rooted.root m.pairs.root in (d.0, d.1);
     used = λ d name link n.
         let a = at d name link n in
-        let h = held (name ∷ a.path) link.0 a.node a.of_child a.is in
-        record { content = h.0; used = h.1; kind_is = ap node_kind h.2 ∙ a.kind };
+        let h = held (name ∷ a.path) link.0 a.object a.of_child a.is in
+        record { content = h.0; used = h.1; kind_is = ap object_kind h.2 ∙ a.kind };
     not_root = λ d name link n e.
         let a = at d name link n in
         let same : name ∷ a.path ≡ [] =
@@ -172,33 +172,33 @@ module _ (inodes : Inodes) (f : FormTree inodes) where
       (u.content, ap inodes (sym s.is) ∙ u.used)
 
   finds : (p : Path) (i : ℕ) (c : InodeContent) → reached inodes p ≡ Some i → inodes i ≡ Some c
-      → found_node inodes p ≡ Some (node_of c)
+      → found_object inodes p ≡ Some (object_of c)
   finds p i c walk is =
-      ap (λ (o : Option ℕ). option_map node_of (option_and_then inodes o)) walk ∙ ap (option_map node_of) is
+      ap (λ (o : Option ℕ). option_map object_of (option_and_then inodes o)) walk ∙ ap (option_map object_of) is
 
-  record Found (p : Path) (x : Node) : Type 0 where
+  record Found (p : Path) (x : Object) : Type 0 where
     pub inode : ℕ
     pub walk : reached inodes p ≡ Some inode
     pub content : InodeContent
     pub holds : inodes inode ≡ Some content
-    pub node : node_of content ≡ x
+    pub object : object_of content ≡ x
 
-  found_at : (p : Path) (x : Node) → found_node inodes p ≡ Some x → Found p x
+  found_at : (p : Path) (x : Object) → found_object inodes p ≡ Some x → Found p x
   found_at p x h = by (reached inodes p) refl h
     where
       by_content : (i : ℕ) (o : Option InodeContent) → reached inodes p ≡ Some i → inodes i ≡ o
-          → option_map node_of o ≡ Some x → Found p x
+          → option_map object_of o ≡ Some x → Found p x
       by_content i None walk is k = cc
-      by_content i (Some c) walk is k = record { inode = i; walk = walk; content = c; holds = is; node = cc }
+      by_content i (Some c) walk is k = record { inode = i; walk = walk; content = c; holds = is; object = cc }
 
-      by : (o : Option ℕ) → reached inodes p ≡ o → option_map node_of (option_and_then inodes o) ≡ Some x
+      by : (o : Option ℕ) → reached inodes p ≡ o → option_map object_of (option_and_then inodes o) ≡ Some x
           → Found p x
       by None walk k = cc
       by (Some i) walk k = by_content i (inodes i) walk refl k
 
   -- ---- the walks are rooted, and paired with the inodes
 
-  rooted : IsRooted (found_node inodes)
+  rooted : IsRooted (found_object inodes)
   rooted = record {
     root = finds [] 2 (Records f.root.0) root_reached f.root.1;
     parents = λ n p x h.
@@ -207,7 +207,7 @@ module _ (inodes : Inodes) (f : FormTree inodes) where
         finds p s.directory (Records s.names.records) s.walk s.names.directory;
   }
 
-  pairs : Pairs inodes (found_node inodes) (reached inodes)
+  pairs : Pairs inodes (found_object inodes) (reached inodes)
   pairs = record {
     root = root_reached;
     paths = λ p. both p (reached inodes p) refl;
@@ -218,35 +218,35 @@ module _ (inodes : Inodes) (f : FormTree inodes) where
   }
     where
       both : (p : Path) (o : Option ℕ) → reached inodes p ≡ o
-          → is_some (reached inodes p) ≡ is_some (found_node inodes p)
+          → is_some (reached inodes p) ≡ is_some (found_object inodes p)
       both p None walk =
           ap is_some walk
-          ∙ sym (ap is_some (ap (λ (o : Option ℕ). option_map node_of (option_and_then inodes o)) walk))
+          ∙ sym (ap is_some (ap (λ (o : Option ℕ). option_map object_of (option_and_then inodes o)) walk))
       both p (Some i) walk =
           let c = comes_to p i walk in ap is_some walk ∙ sym (ap is_some (finds p i c.0 walk c.1))
 
       record_there : (p : Path) (d : ℕ) (records : Name → Option Link) → reached inodes p ≡ Some d
           → inodes d ≡ Some (Records records) → (n : Name) (o : Option Link) → records n ≡ o
-          → o ≡ option_zip (reached inodes (n ∷ p)) (option_map node_kind (found_node inodes (n ∷ p)))
+          → o ≡ option_zip (reached inodes (n ∷ p)) (option_map object_kind (found_object inodes (n ∷ p)))
       record_there p d records walk is n None at =
           let nothing : reached inodes (n ∷ p) ≡ None = leads_nowhere n p d records walk is at in
           sym (ap (λ (o : Option ℕ).
-          option_zip o (option_map node_kind (option_map node_of (option_and_then inodes o))))
+          option_zip o (option_map object_kind (option_map object_of (option_and_then inodes o))))
           nothing)
       record_there p d records walk is n (Some link) at =
           let k : Names inodes d n link = record { records = records; directory = is; listed = at } in
           let u = f.used d n link k in
           let there = goes_on n p d link walk k in
-          let node = finds (n ∷ p) link.0 u.content there u.used in
-          let kinds : option_map node_kind (found_node inodes (n ∷ p)) ≡ Some link.1 =
-          ap (option_map node_kind) node ∙ ap (λ (k : Kind). Some k) u.kind_is in
-          sym (ap (λ (o : Option ℕ). option_zip o (option_map node_kind (found_node inodes (n ∷ p)))) there
+          let object = finds (n ∷ p) link.0 u.content there u.used in
+          let kinds : option_map object_kind (found_object inodes (n ∷ p)) ≡ Some link.1 =
+          ap (option_map object_kind) object ∙ ap (λ (k : Kind). Some k) u.kind_is in
+          sym (ap (λ (o : Option ℕ). option_zip o (option_map object_kind (found_object inodes (n ∷ p)))) there
           ∙ ap (option_zip (Some link.0)) kinds)
 
-      in_directory : (p : Path) (i : ℕ) (o : Option InodeContent) → found_node inodes p ≡ Some Dir
+      in_directory : (p : Path) (i : ℕ) (o : Option InodeContent) → found_object inodes p ≡ Some Dir
           → reached inodes p ≡ Some i → inodes i ≡ o
           → (records : Name → Option Link) × (inodes i ≡ Some (Records records))
-          × ((n : Name) → records n ≡ record_of (found_node inodes) (reached inodes) (n ∷ p))
+          × ((n : Name) → records n ≡ record_of (found_object inodes) (reached inodes) (n ∷ p))
       in_directory p i None d walk is = let c = comes_to p i walk in absurd (clash (inodes i) c.0 is c.1)
       in_directory p i (Some (Bytes bytes)) d walk is =
           absurd (let e : Some (File bytes) ≡ Some Dir = sym (finds p i (Bytes bytes) walk is) ∙ d in cc)
@@ -254,7 +254,7 @@ module _ (inodes : Inodes) (f : FormTree inodes) where
           (records, is, λ n. record_there p i records walk is n (records n) refl)
 
       of_file : (p : Path) (i : ℕ) (bytes : List ℕ) (o : Option InodeContent)
-          → found_node inodes p ≡ Some (File bytes) → reached inodes p ≡ Some i → inodes i ≡ o
+          → found_object inodes p ≡ Some (File bytes) → reached inodes p ≡ Some i → inodes i ≡ o
           → inodes i ≡ Some (Bytes bytes)
       of_file p i bytes None d walk is = let c = comes_to p i walk in absurd (clash (inodes i) c.0 is c.1)
       of_file p i bytes (Some (Bytes own)) d walk is =
@@ -266,29 +266,29 @@ module _ (inodes : Inodes) (f : FormTree inodes) where
 
   -- ---- the tree
 
-  entry_at : (i : ℕ) (o : Option InodeContent) → inodes i ≡ o → List (Path × Node)
+  entry_at : (i : ℕ) (o : Option InodeContent) → inodes i ≡ o → List (Path × Object)
   entry_at i None is = []
-  entry_at i (Some c) is = (reverse (f.found i c is).0, node_of c) ∷ []
+  entry_at i (Some c) is = (reverse (f.found i c is).0, object_of c) ∷ []
 
   -- the entries of the inodes below a number
-  entries : ℕ → List (Path × Node)
+  entries : ℕ → List (Path × Object)
   entries zero = []
   entries (suc n) = entry_at n (inodes n) refl ++ entries n
 
-  record Entered (n : ℕ) (path : Path) (x : Node) : Type 0 where
+  record Entered (n : ℕ) (path : Path) (x : Object) : Type 0 where
     pub inode : ℕ
     pub below : inode < n
     pub content : InodeContent
     pub holds : inodes inode ≡ Some content
     pub walk : reached inodes (reverse path) ≡ Some inode
-    pub node : node_of content ≡ x
+    pub object : object_of content ≡ x
 
   -- a walk that is turned round twice
   turned : (p : Path) (i : ℕ) → reached inodes p ≡ Some i → reached inodes (reverse (reverse p)) ≡ Some i
   turned p i walk = ap (reached inodes) (reverse-reverse p) ∙ walk
 
   -- what is entered is what an inode below the number holds
-  entered : (n : ℕ) (path : Path) (x : Node) → find path_cmp path (entries n) ≡ Some x → Entered n path x
+  entered : (n : ℕ) (path : Path) (x : Object) → find path_cmp path (entries n) ≡ Some x → Entered n path x
   unfolding entries entry_at
   entered zero path x h = cc
   entered (suc n) path x h = by (λ k. entered n path x k) (inodes n) refl h
@@ -300,13 +300,13 @@ module _ (inodes : Inodes) (f : FormTree inodes) where
         content = e.content;
         holds = e.holds;
         walk = e.walk;
-        node = e.node;
+        object = e.object;
       }
 
       by_path : (find path_cmp path (entries n) ≡ Some x → Entered n path x)
           → (c : InodeContent) (is : inodes n ≡ Some c)
           (b : Bool) → same_path path (reverse (f.found n c is).0) ≡ b
-          → cond b (Some (node_of c)) (find path_cmp path (entries n)) ≡ Some x → Entered (suc n) path x
+          → cond b (Some (object_of c)) (find path_cmp path (entries n)) ≡ Some x → Entered (suc n) path x
       by_path earlier c is true same e = record {
         inode = n;
         below = omega arith;
@@ -316,7 +316,7 @@ module _ (inodes : Inodes) (f : FormTree inodes) where
             ap (λ (q : Path). reached inodes (reverse q))
             (same_path-equal path (reverse (f.found n c is).0) same)
             ∙ turned (f.found n c is).0 n (f.found n c is).1;
-        node = cc;
+        object = cc;
       }
       by_path earlier c is false same e = later (earlier e)
 
@@ -328,16 +328,16 @@ module _ (inodes : Inodes) (f : FormTree inodes) where
 
   -- the path of an inode below the number is entered
   is_entered : (n i : ℕ) (c : InodeContent) (p : Path) → i < n → inodes i ≡ Some c → reached inodes p ≡ Some i
-      → find path_cmp (reverse p) (entries n) ≡ Some (node_of c)
+      → find path_cmp (reverse p) (entries n) ≡ Some (object_of c)
   unfolding entries entry_at
   is_entered zero i c p low is walk = absurd (omega (arith, low))
   is_entered (suc n) i c p low is walk = by (λ less. is_entered n i c p less is walk) (inodes n) refl
     where
-      content : (d : InodeContent) → inodes n ≡ Some d → reached inodes p ≡ Some n → node_of d ≡ node_of c
+      content : (d : InodeContent) → inodes n ≡ Some d → reached inodes p ≡ Some n → object_of d ≡ object_of c
       content d at there =
           let same : Some i ≡ Some n = sym walk ∙ there in
           let number : i ≡ n = cc in
-          ap node_of (same_value (inodes n) d c at (ap inodes (sym number) ∙ is))
+          ap object_of (same_value (inodes n) d c at (ap inodes (sym number) ∙ is))
 
       less_by : (i n : ℕ) → i < suc n → (i ≡ n → ⊥) → i < n
       less_by i n low other = omega (arith, low, other)
@@ -345,25 +345,25 @@ module _ (inodes : Inodes) (f : FormTree inodes) where
       less : (reached inodes p ≡ Some n → ⊥) → i < n
       less apart = less_by i n low (λ e. apart (walk ∙ ap (λ (k : ℕ). Some k) e))
 
-      by_path : (i < n → find path_cmp (reverse p) (entries n) ≡ Some (node_of c))
+      by_path : (i < n → find path_cmp (reverse p) (entries n) ≡ Some (object_of c))
           → (d : InodeContent) (at : inodes n ≡ Some d)
           (b : Bool) → same_path (reverse p) (reverse (f.found n d at).0) ≡ b
-          → cond b (Some (node_of d)) (find path_cmp (reverse p) (entries n)) ≡ Some (node_of c)
+          → cond b (Some (object_of d)) (find path_cmp (reverse p) (entries n)) ≡ Some (object_of c)
       by_path earlier d at true same =
           let turned_same : reverse p ≡ reverse (f.found n d at).0 =
           same_path-equal (reverse p) (reverse (f.found n d at).0) same in
           let paths : p ≡ (f.found n d at).0 =
           sym (reverse-reverse p) ∙ (ap reverse turned_same ∙ reverse-reverse (f.found n d at).0) in
-          ap (λ (x : Node). Some x) (content d at (ap (reached inodes) paths ∙ (f.found n d at).1))
+          ap (λ (x : Object). Some x) (content d at (ap (reached inodes) paths ∙ (f.found n d at).1))
       by_path earlier d at false same = earlier (less (λ there.
           let paths : (f.found n d at).0 ≡ p = one_walk (f.found n d at).0 p n (f.found n d at).1 there in
           let itself : same_path (reverse p) (reverse (f.found n d at).0) ≡ true =
           ap (λ (q : Path). same_path (reverse p) (reverse q)) paths ∙ same_path-itself (reverse p) in
           let no : true ≡ false = sym itself ∙ same in cc))
 
-      by : (i < n → find path_cmp (reverse p) (entries n) ≡ Some (node_of c))
+      by : (i < n → find path_cmp (reverse p) (entries n) ≡ Some (object_of c))
           → (o : Option InodeContent) (at : inodes n ≡ o)
-          → find path_cmp (reverse p) (entry_at n o at ++ entries n) ≡ Some (node_of c)
+          → find path_cmp (reverse p) (entry_at n o at ++ entries n) ≡ Some (object_of c)
       by earlier None at = earlier (less (λ there. let d = comes_to p n there in clash (inodes n) d.0 at d.1))
       by earlier (Some d) at = by_path earlier d at (same_path (reverse p) (reverse (f.found n d at).0)) refl
 
@@ -376,7 +376,7 @@ module _ (inodes : Inodes) (f : FormTree inodes) where
   counted zero = refl
   counted (suc n) = by (counted n) (inodes n) refl
     where
-      absent_yet : (c : InodeContent) (at : inodes n ≡ Some c) (o : Option Node)
+      absent_yet : (c : InodeContent) (at : inodes n ≡ Some c) (o : Option Object)
           → find path_cmp (reverse (f.found n c at).0) (entries n) ≡ o
           → lookup (tree_below n) (reverse (f.found n c at).0) ≡ None
       absent_yet c at None h = lookup-in_order (entries n) (reverse (f.found n c at).0) ∙ h
@@ -393,30 +393,30 @@ module _ (inodes : Inodes) (f : FormTree inodes) where
           let p = f.found n c at in
           let new : lookup (tree_below n) (reverse p.0) ≡ None =
           absent_yet c at (find path_cmp (reverse p.0) (entries n)) refl in
-          length-insert_new (tree_below n) (reverse p.0) (node_of c) (in_order-sorted (entries n)) new
+          length-insert_new (tree_below n) (reverse p.0) (object_of c) (in_order-sorted (entries n)) new
           ∙ (ap (λ (k : ℕ). k + 1) earlier ∙ omega arith)
 
   module _ (limit : ℕ) (few : AreBelow limit inodes) where
     -- the tree has what the walks find
-    has_found : (p : Path) → found_node inodes p ≡ upward (tree_below limit) p
+    has_found : (p : Path) → found_object inodes p ≡ upward (tree_below limit) p
     unfolding tree_below
-    has_found p = by (found_node inodes p) refl
+    has_found p = by (found_object inodes p) refl
       where
-        by_find : (o : Option Node) → find path_cmp (reverse p) (entries limit) ≡ o
-            → found_node inodes p ≡ None → found_node inodes p ≡ upward (tree_below limit) p
+        by_find : (o : Option Object) → find path_cmp (reverse p) (entries limit) ≡ o
+            → found_object inodes p ≡ None → found_object inodes p ≡ upward (tree_below limit) p
         by_find None h none = none ∙ sym (lookup-in_order (entries limit) (reverse p) ∙ h)
         by_find (Some x) h none =
             let e = entered limit (reverse p) x h in
             let walk = ap (reached inodes) (sym (reverse-reverse p)) ∙ e.walk in
             absurd
-            (clash (found_node inodes p) (node_of e.content) none (finds p e.inode e.content walk e.holds))
+            (clash (found_object inodes p) (object_of e.content) none (finds p e.inode e.content walk e.holds))
 
-        by : (o : Option Node) → found_node inodes p ≡ o → found_node inodes p ≡ upward (tree_below limit) p
+        by : (o : Option Object) → found_object inodes p ≡ o → found_object inodes p ≡ upward (tree_below limit) p
         by None h = by_find (find path_cmp (reverse p) (entries limit)) refl h
         by (Some x) h =
             let at = found_at p x h in
             h
-            ∙ (ap (λ (y : Node). Some y) (sym at.node)
+            ∙ (ap (λ (y : Object). Some y) (sym at.object)
             ∙ sym (lookup-in_order (entries limit) (reverse p)
             ∙ is_entered limit at.inode at.content p (few at.inode at.content at.holds) at.holds at.walk))
 
@@ -424,7 +424,7 @@ module _ (inodes : Inodes) (f : FormTree inodes) where
     unfolding tree_below
     means = record {
       means =
-          means_by inodes (tree_below limit) (found_node inodes) (reached inodes)
+          means_by inodes (tree_below limit) (found_object inodes) (reached inodes)
           (in_order-sorted (entries limit)) has_found rooted pairs;
       count = counted limit;
     }

@@ -4,16 +4,16 @@ use Rattle.std.specs.Option.{option_map, ok_or}
 use Rattle.nl_types.specs.declared.error.VolError.{VolError}
 use Rattle.nl_types.specs.declared.error.VolError.TheVariants.{NotFound}
 use Rattle.nl_types.specs.declared.kind.Kind.TheVariants as kind
-use Rattle.nl_types.specs.declared.reply.Node.{Node}
-use Rattle.nl_types.specs.declared.reply.Node.TheVariants.{File}
-use Rattle.nl_types.specs.Plain.Calls.{and_then, node_at, walk}
-use Rattle.nl_types.specs.Inodes.{Bytes, InodeContent, Link, node_of}
+use Rattle.nl_types.specs.declared.reply.Object.{Object}
+use Rattle.nl_types.specs.declared.reply.Object.TheVariants.{File}
+use Rattle.nl_types.specs.Plain.Calls.{and_then, object_at, walk}
+use Rattle.nl_types.specs.Inodes.{Bytes, InodeContent, Link, object_of}
 use Rattle.nl_types.specs.Plain.Paths.{Path}
-use Rattle.nl_types.specs.Resolving.{node_in, resolve}
+use Rattle.nl_types.specs.Resolving.{object_in, resolve}
 use Rattle.nl_types.specs.Blocks.Roots.{Blocks, Pages, Root, page_at}
 use Rattle.nl_types.specs.Plain.Trees.{Tree, lookup}
 use Rattle.nl_types.specs.Plain.Worlds.{World}
-use Rattle.nl_types.specs.Facts.Inodes.Resolving.{files_hold_bytes, nodes_by_inodes}
+use Rattle.nl_types.specs.Facts.Inodes.Resolving.{files_hold_bytes, objects_by_inodes}
 use Rattle.nl_layout.specs.Root.{root_of}
 use Rattle.nl_layout.specs.declared.inode.Inode.{Inode}
 use Rattle.nl_layout.specs.declared.inode.InodeKind.{InodeKind}
@@ -62,11 +62,11 @@ stand_as blocks inode_kind.Directory size held bytes stands has =
 stand_as blocks inode_kind.InodeFile size held bytes stands has = absurd stands
 
 -- what a path leads to stands at it
-lookup_of : {A : Type 0} (walked : Result A VolError) (there : Option Node) (node : Node)
-    → and_then walked (λ _. ok_or there NotFound) ≡ Ok node → there ≡ Some node
-lookup_of (Err e) there node is = cc
-lookup_of (Ok a) None node is = cc
-lookup_of (Ok a) (Some found) node is = cc
+lookup_of : {A : Type 0} (walked : Result A VolError) (there : Option Object) (object : Object)
+    → and_then walked (λ _. ok_or there NotFound) ≡ Ok object → there ≡ Some object
+lookup_of (Err e) there object is = cc
+lookup_of (Ok a) None object is = cc
+lookup_of (Ok a) (Some found) object is = cc
 
 -- so the tree that is held has those bytes at the path
 file_bytes : (pages : Pages) (root : Root) (held : Holding) (tree : Tree) (path : Path) (inode : Inode)
@@ -79,10 +79,10 @@ file_bytes pages root held tree path inode holds means leads =
     let stands = subst (λ o. StandsFor pages o (held at.0)) at.2 (holds.stores at.0) in
     let bytes : has.1 ≡ bytes_by pages inode =
     stand_as (page_at pages (root_of inode.root)) inode.kind inode.size (held at.0) has.1 stands has.2 in
-    let found : node_at tree path ≡ Ok (File has.1) =
-    nodes_by_inodes inodes tree means.means path
-    ∙ ap (λ (r : Result Link VolError). and_then r (λ l. ok_or (node_in inodes l) NotFound)) at.1
-    ∙ ap (λ (o : Option InodeContent). ok_or (option_map node_of o) NotFound) has.2 in
+    let found : object_at tree path ≡ Ok (File has.1) =
+    objects_by_inodes inodes tree means.means path
+    ∙ ap (λ (r : Result Link VolError). and_then r (λ l. ok_or (object_in inodes l) NotFound)) at.1
+    ∙ ap (λ (o : Option InodeContent). ok_or (option_map object_of o) NotFound) has.2 in
     lookup_of (walk tree path) (lookup tree path) (File has.1) found
     ∙ ap (λ (b : List ℕ). Some (File b)) bytes
 

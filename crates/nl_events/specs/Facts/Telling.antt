@@ -21,7 +21,7 @@ use Rattle.nl_reclaim.specs.Cleaning.{judged_for}
 use Rattle.nl_cpfile.specs.Tables.{Table, range_in, with_mode, with_next, without}
 use Rattle.nl_cpfile.specs.declared.checkpoint.Checkpoint.{Checkpoint}
 use Rattle.nl_commit.specs.CleaningEvents.{HasMovedOut, HasResized, IsMoveRefusal, needed_by}
-use Rattle.nl_commit.specs.Commits.{AllNext, IsShownImage, IsNew, KeepsCheckpoints, applied, numbers_written, with_room, without_numbers}
+use Rattle.nl_commit.specs.Commits.{AllNext, IsShownState, IsNew, KeepsCheckpoints, applied, numbers_written, with_room, without_numbers}
 use Rattle.nl_commit.specs.Layout.{AllowedBetween, Does, HasRefused, HasWrittenCheckpoint, IsPen, KeepsNumbers, Layout, layout_of}
 use Rattle.nl_commit.specs.Notes.{AreCommitsOf, CommitsTellAll, HasNoted, freed_in, has_other_mode, known_commit, made_where, mounted_as, moved_as, new_checkpoint, noted_by, shown_of, shown_page, where_any, where_true, without_changes}
 use Rattle.nl_commit.specs.Shown.{Shown}
@@ -33,7 +33,7 @@ use Rattle.nl_commit.specs.declared.mounts.Mounted.{Mounted as Mount}
 use Rattle.nl_events.specs.Facts.Checkpoints.{latest-next, number-next}
 use Rattle.nl_events.specs.Facts.CleanedPens.{refused-numbers}
 use Rattle.nl_events.specs.Facts.ExpiredNumbers.{without-none}
-use Rattle.nl_events.specs.Facts.Images.{pen-image, pen-table}
+use Rattle.nl_events.specs.Facts.States.{pen-state, pen-table}
 use Rattle.nl_events.specs.Facts.Keeping.{KeepsRoots, keeps-checkpoints, roots-moded, roots-next, roots-same, roots-without}
 use Rattle.nl_commit.specs.Facts.MountEvents.{answers-mount, mounted-before}
 use Rattle.nl_events.specs.Facts.SameModes.{no-other_mode}
@@ -44,21 +44,21 @@ use Rattle.nl_events.specs.Facts.ResizedPens.{numbers-resized, resized-as-many, 
 
 -- from what readers saw, these commits lead to what they see then, and may follow
 pub record TellsAll (old new : Layout) (more : List Commit) : Type 0 where
-  pub image : shown_of new ≡ fold applied (shown_of old) more
+  pub state : shown_of new ≡ fold applied (shown_of old) more
   pub next : AllNext (shown_of old) more
 
 -- nothing is seen of the event
 tells-nothing : (old new : Layout) → shown_of new ≡ shown_of old → TellsAll old new []
-tells-nothing old new same = record { image = same; next = tt }
+tells-nothing old new same = record { state = same; next = tt }
 
 -- a commit tells all
 tells-one : (old new : Layout) (c : Commit) → IsPen new → KeepsCheckpoints (shown_of old) (shown_of new)
     → shown_of new ≡ applied (shown_of old) c → IsNew (shown_of old) c → TellsAll old new (c ∷ [])
 tells-one old new c pen keeps is fresh = record {
-  image = is;
+  state = is;
   next = (
     record {
-      image = subst IsShownImage is (pen-image new pen);
+      state = subst IsShownState is (pen-state new pen);
       keeps = subst (KeepsCheckpoints (shown_of old)) is keeps;
       new = fresh;
     },
@@ -379,4 +379,4 @@ module _ (allowed : AllowedBetween) (old new : Layout) (pen : IsPen old) where
 pub commits_tell_all : (allowed : AllowedBetween) → CommitsTellAll allowed
 commits_tell_all allowed old new event reply more pen does commits =
     let all = tells allowed old new pen event reply more does commits in
-    record { commits = commits; image = all.image; next = all.next }
+    record { commits = commits; state = all.state; next = all.next }

@@ -2,8 +2,8 @@
 use Rattle.std.specs.Prelude.{◌≡◌, ℕ, ◌+◌, ◌*◌, ◌<◌, ◌≤◌, min, max, Bool, true, false, List, [], ◌∷◌, length, slice_index, slice_range, Option, None, Some}
 use Rattle.nl_types.specs.declared.event.Change.{Change}
 use Rattle.nl_types.specs.declared.event.Change.TheVariants.{Create, Mkdir, Write, Truncate}
-use Rattle.nl_types.specs.declared.reply.Node.{Node}
-use Rattle.nl_types.specs.declared.reply.Node.TheVariants.{Dir, File}
+use Rattle.nl_types.specs.declared.reply.Object.{Object}
+use Rattle.nl_types.specs.declared.reply.Object.TheVariants.{Dir, File}
 use Rattle.nl_types.specs.Plain.Paths.{Path}
 use Rattle.nl_types.specs.Plain.Calls.{overwritten, resized}
 use Rattle.nl_folders.specs.declared.rewriting.Run.{Run}
@@ -49,14 +49,14 @@ abbrev pub MakesFile : Path → List ℕ → List Change → Type 0
 MakesFile path new [] = ⊥
 MakesFile path new (call ∷ calls) = (call ≡ Create (spelling path)) × RewritesFile path [] new calls
 
--- the calls put a node where another one of its kind stands, or one of another kind stood
-abbrev pub PutsNode : Path → Option Node → Node → List Change → Type 0
-PutsNode path None Dir calls = calls ≡ Mkdir (spelling path) ∷ []
-PutsNode path None (File new) calls = MakesFile path new calls
-PutsNode path (Some Dir) Dir calls = calls ≡ []
-PutsNode path (Some Dir) (File new) calls = MakesFile path new calls
-PutsNode path (Some (File old)) Dir calls = calls ≡ Mkdir (spelling path) ∷ []
-PutsNode path (Some (File old)) (File new) calls = RewritesFile path old new calls
+-- the calls put an object where another one of its kind stands, or one of another kind stood
+abbrev pub PutsObject : Path → Option Object → Object → List Change → Type 0
+PutsObject path None Dir calls = calls ≡ Mkdir (spelling path) ∷ []
+PutsObject path None (File new) calls = MakesFile path new calls
+PutsObject path (Some Dir) Dir calls = calls ≡ []
+PutsObject path (Some Dir) (File new) calls = MakesFile path new calls
+PutsObject path (Some (File old)) Dir calls = calls ≡ Mkdir (spelling path) ∷ []
+PutsObject path (Some (File old)) (File new) calls = RewritesFile path old new calls
 
 -- ---- runs of blocks
 

@@ -3,8 +3,8 @@ use Rattle.std.specs.Prelude.{◌≡◌, ◌⊎◌, ℕ, ◌+◌, ◌<◌, ◌�
 use Rattle.std.specs.Result.{result_unwrap_or}
 use Rattle.nl_types.specs.declared.event.Change.{Change}
 use Rattle.nl_types.specs.declared.event.Change.TheVariants.{Mkdir, Rename}
-use Rattle.nl_types.specs.declared.reply.Node.{Node}
-use Rattle.nl_types.specs.declared.reply.Node.TheVariants.{Dir}
+use Rattle.nl_types.specs.declared.reply.Object.{Object}
+use Rattle.nl_types.specs.declared.reply.Object.TheVariants.{Dir}
 use Rattle.nl_types.specs.Plain.Limits.{path_limit}
 use Rattle.nl_types.specs.Plain.Paths.{Name, Path, same_path, is_within}
 use Rattle.nl_types.specs.Plain.Trees.{Tree, IsTree, IsIn, lookup}
@@ -47,8 +47,8 @@ has_gone present [] q = false
 has_gone present (step ∷ steps) q = goes_by present step q || has_gone present steps q
 
 -- what stands at a path once the steps are done
-abbrev pub node_after : Tree → Tree → List Step → Path → Option Node
-node_after present wanted steps q =
+abbrev pub object_after : Tree → Tree → List Step → Path → Option Object
+object_after present wanted steps q =
     if has_come wanted steps q then lookup wanted q
     else if has_gone present steps q then None
     else lookup present q
@@ -66,11 +66,11 @@ abbrev pub tree_after_steps : Tree → Tree → List Step → Tree
 tree_after_steps present wanted steps =
     result_unwrap_or (tree_after_all present (calls_of present wanted steps)) present
 
--- the steps are done, and leave a tree with these nodes
+-- the steps are done, and leave a tree with these objects
 pub record AreDone (present wanted : Tree) (steps : List Step) : Type 0 where
   pub done : tree_after_all present (calls_of present wanted steps) ≡ Ok (tree_after_steps present wanted steps)
   pub is_tree : IsTree (tree_after_steps present wanted steps)
-  pub nodes : (q : Path) → lookup (tree_after_steps present wanted steps) q ≡ node_after present wanted steps q
+  pub objects : (q : Path) → lookup (tree_after_steps present wanted steps) q ≡ object_after present wanted steps q
   pub size : length (tree_after_steps present wanted steps) ≤ length present + length steps
 
 -- ---- how steps are chosen

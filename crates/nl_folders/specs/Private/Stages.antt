@@ -3,8 +3,8 @@ use Rattle.std.specs.Prelude.{◌≡◌, ℕ, ◌+◌, ◌-◌, ◌<◌, ◌≤�
 use Rattle.std.specs.FinMap.{is_sorted}
 use Rattle.nl_types.specs.declared.event.Change.{Change}
 use Rattle.nl_types.specs.declared.event.Change.TheVariants.{Unlink, Rmdir, Rename}
-use Rattle.nl_types.specs.declared.reply.Node.{Node}
-use Rattle.nl_types.specs.declared.reply.Node.TheVariants.{Dir, File}
+use Rattle.nl_types.specs.declared.reply.Object.{Object}
+use Rattle.nl_types.specs.declared.reply.Object.TheVariants.{Dir, File}
 use Rattle.nl_types.specs.Plain.Paths.{Path, path_cmp}
 use Rattle.nl_types.specs.Plain.Trees.{Tree, lookup}
 use Rattle.nl_folders.specs.declared.plans.Handed.{Handed}
@@ -58,15 +58,15 @@ IsNoRename (Rename from to) = ⊥
 IsNoRename _ = Unit {0}
 
 -- each of the calls is needed at one path, and none renames
-abbrev pub AreNeededAt : Path → Option Node → Option Node → List Change → Type 0
+abbrev pub AreNeededAt : Path → Option Object → Option Object → List Change → Type 0
 AreNeededAt path old new [] = Unit {0}
 AreNeededAt path old new (call ∷ calls) =
     (IsNeededAt path old new call × IsNoRename call) × AreNeededAt path old new calls
 
 -- ---- clearing
 
--- the call that takes a node away
-abbrev pub removal_of : Path → Node → Change
+-- the call that takes an object away
+abbrev pub removal_of : Path → Object → Change
 removal_of path Dir = Rmdir (spelling path)
 removal_of path (File bytes) = Unlink (spelling path)
 
@@ -76,7 +76,7 @@ BeginsUnwanted wanted [] = ⊥
 BeginsUnwanted wanted (e ∷ entries) =
     IsTrue (is_sorted path_cmp wanted) → left_of (Some e.1) (lookup wanted e.0) ≡ None
 
--- the last entry before a place whose node has to go, and has not moved
+-- the last entry before a place whose object has to go, and has not moved
 pub record IsUnwantedAt (s : TwoSides) (left : ℕ) (place : Place) : Type 0 where
   pub before : place.index < left
   pub kept : NeedsNoCall s (Clearing left) (Clearing (place.index + 1))

@@ -2,8 +2,8 @@
 use Rattle.std.specs.Prelude.{ℕ, ◌+◌, ◌-◌, ◌==◌, Bool, true, false, ◌&&◌, nat_le, nat_lt, [], ◌∷◌, length}
 use Rattle.std.specs.List.{list_all}
 use Rattle.std.specs.Ordering.{is_lt}
-use Rattle.nl_types.specs.declared.reply.Node.{Node}
-use Rattle.nl_types.specs.declared.reply.Node.TheVariants.{Dir, File}
+use Rattle.nl_types.specs.declared.reply.Object.{Object}
+use Rattle.nl_types.specs.declared.reply.Object.TheVariants.{Dir, File}
 use Rattle.nl_types.specs.Plain.Calls.{is_dir}
 use Rattle.nl_types.specs.Plain.Limits.{file_limit, path_length_limit, path_limit}
 use Rattle.nl_types.specs.Plain.Paths.{Path, is_name, name_cmp, same_name}
@@ -16,11 +16,11 @@ abbrev pub is_spelled : (room : ℕ) → Path → Bool
 is_spelled room [] = true
 is_spelled room (name ∷ names) = nat_lt (length name) room && is_spelled (room - length name - 1) names
 
-abbrev pub is_small : Node → Bool
+abbrev pub is_small : Object → Bool
 is_small Dir = true
 is_small (File bytes) = nat_le (length bytes) file_limit
 
-abbrev pub is_entry : Path × Node → Bool
+abbrev pub is_entry : Path × Object → Bool
 is_entry e = list_all is_name e.0 && is_spelled path_length_limit e.0 && is_small e.1
 
 -- ---- one entry behind another
@@ -35,7 +35,7 @@ follows d (a ∷ earlier) (n ∷ []) = is_lt (name_cmp a n)
 follows d (a ∷ earlier) (n ∷ m ∷ later) = same_name a n && follows d earlier (m ∷ later)
 
 -- whether each entry follows the one before it
-abbrev pub all_follow : Path × Node → Tree → Bool
+abbrev pub all_follow : Path × Object → Tree → Bool
 all_follow e [] = true
 all_follow e (f ∷ entries) = follows (is_dir e.1) e.0 f.0 && all_follow f entries
 

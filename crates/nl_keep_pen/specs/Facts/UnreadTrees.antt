@@ -5,18 +5,18 @@ use Rattle.std.specs.Option.{option_map}
 use Rattle.std.specs.Ordering.{is_lt}
 use Rattle.std.specs.FinMap.{find, is_sorted}
 use Rattle.std.specs.FinMap.Entries.{below_all}
-use Rattle.nl_types.specs.declared.reply.Node.{Node}
-use Rattle.nl_types.specs.declared.reply.Node.TheVariants.{Dir, File}
+use Rattle.nl_types.specs.declared.reply.Object.{Object}
+use Rattle.nl_types.specs.declared.reply.Object.TheVariants.{Dir, File}
 use Rattle.nl_types.specs.Plain.Limits.{file_limit}
 use Rattle.nl_types.specs.Plain.Paths.{Name, Path, path_cmp, same_name, same_path}
 use Rattle.nl_types.specs.Plain.Trees.{Tree, IsIn, IsTree, lookup}
 use Rattle.nl_types.specs.Facts.TreeLaws.{same_path-equal}
 use Rattle.nl_manifests.specs.HostTrees.{last_name, manifest_name, parted}
-use Rattle.nl_manifests.specs.Unread.{unread, unread_at, unread_node}
+use Rattle.nl_manifests.specs.Unread.{unread, unread_at, unread_object}
 
 -- ---- entries that are made others at their paths
 
-module _ (f : Path → Node → Node) where
+module _ (f : Path → Object → Object) where
   abbrev all_made : Tree → Tree
   all_made es = map (λ e. (e.0, f e.0 e.1)) es
 
@@ -47,9 +47,9 @@ pub found_unread : (tree : Tree) (path : Path)
 found_unread tree path = found_made unread_at tree path
 
 -- what is one for all files is the same without their bytes
-pub same_unread : {X : Type 0} (f : Option Node → X)
-    → ((a b : List ℕ) → f (Some (File a)) ≡ f (Some (File b))) → (name : Name) (o : Option Node)
-    → f (option_map (unread_node name) o) ≡ f o
+pub same_unread : {X : Type 0} (f : Option Object → X)
+    → ((a b : List ℕ) → f (Some (File a)) ≡ f (Some (File b))) → (name : Name) (o : Option Object)
+    → f (option_map (unread_object name) o) ≡ f o
 same_unread f one name None = refl
 same_unread f one name (Some Dir) = refl
 same_unread f one name (Some (File bytes)) =
@@ -66,15 +66,15 @@ in_whole tree path there =
 
 -- ---- trees
 
-small : (name : Name) (o : Option Node) (bytes : List ℕ)
+small : (name : Name) (o : Option Object) (bytes : List ℕ)
     → ((b : List ℕ) → o ≡ Some (File b) → length b ≤ file_limit)
-    → option_map (unread_node name) o ≡ Some (File bytes) → length bytes ≤ file_limit
-small name None bytes fits is = let no : ◌≡◌ {A = Option Node} None (Some (File bytes)) = is in cc
+    → option_map (unread_object name) o ≡ Some (File bytes) → length bytes ≤ file_limit
+small name None bytes fits is = let no : ◌≡◌ {A = Option Object} None (Some (File bytes)) = is in cc
 small name (Some Dir) bytes fits is =
-    let no : ◌≡◌ {A = Option Node} (Some Dir) (Some (File bytes)) = is in cc
+    let no : ◌≡◌ {A = Option Object} (Some Dir) (Some (File bytes)) = is in cc
 small name (Some (File b)) bytes fits is = by (same_name name manifest_name) is
   where
-    by : (t : Bool) → ◌≡◌ {A = Option Node} (Some (cond t (File b) (File []))) (Some (File bytes))
+    by : (t : Bool) → ◌≡◌ {A = Option Object} (Some (cond t (File b) (File []))) (Some (File bytes))
         → length bytes ≤ file_limit
     by true is = let same : b ≡ bytes = cc in subst (λ (x : List ℕ). length x ≤ file_limit) same (fits b refl)
     by false is =
@@ -91,7 +91,7 @@ unread_is_tree tree t = record {
   sizes = λ path bytes is.
       small (last_name (parted path)) (lookup tree path) bytes (t.sizes path)
       (sym (found_unread tree path) ∙ is);
-  count = omega (arith, length-map {B = Path × Node} tree (λ (e : Path × Node). (e.0, unread_at e.0 e.1)), t.count);
+  count = omega (arith, length-map {B = Path × Object} tree (λ (e : Path × Object). (e.0, unread_at e.0 e.1)), t.count);
 }
   where
     directory : (path : Path) → lookup tree path ≡ Some Dir → lookup (unread tree) path ≡ Some Dir

@@ -2,8 +2,8 @@
 use Rattle.std.specs.Prelude.{List, [], ◌∷◌, ◌++◌, ℕ, Option, None, Some}
 use Rattle.std.specs.FinMap.{find}
 use Rattle.std.specs.List.{flat_map}
-use Rattle.nl_types.specs.declared.reply.Node.{Node}
-use Rattle.nl_types.specs.declared.reply.Node.TheVariants.{Dir, File}
+use Rattle.nl_types.specs.declared.reply.Object.{Object}
+use Rattle.nl_types.specs.declared.reply.Object.TheVariants.{Dir, File}
 use Rattle.nl_types.specs.Plain.Paths.{Name, Path, path_cmp}
 use Rattle.nl_types.specs.Plain.Trees.{Tree, lookup}
 use Rattle.nl_manifests.specs.declared.manifest.Line.{Line}
@@ -31,9 +31,9 @@ entry_if path None = []
 entry_if path (Some entry) = (path, entry) ∷ []
 
 -- a link, where nothing stands in its place
-abbrev pub link_where : Option Node → Line → Option HostEntry
+abbrev pub link_where : Option Object → Line → Option HostEntry
 link_where None line = shown_link line.name (Some line)
-link_where (Some node) line = None
+link_where (Some object) line = None
 
 abbrev pub link_part : Tree → Path → Line → HostTree
 link_part tree dir line =
@@ -52,13 +52,13 @@ file_part all path bytes =
     entry_if path (shown_in (above_in all (parted path)) (last_name (parted path)) None (Some (File bytes)))
 
 -- a directory with the links in it, or a file
-abbrev pub node_part : Tree → Manifests → Path → Node → HostTree
-node_part tree all path Dir =
+abbrev pub object_part : Tree → Manifests → Path → Object → HostTree
+object_part tree all path Dir =
     (path, shown_directory (find path_cmp path all)) ∷ links_part tree path (find path_cmp path all)
-node_part tree all path (File bytes) = file_part all path bytes
+object_part tree all path (File bytes) = file_part all path bytes
 
 abbrev pub parts : Tree → Manifests → Tree → HostTree
-parts tree all entries = flat_map (λ e. node_part tree all e.0 e.1) entries
+parts tree all entries = flat_map (λ e. object_part tree all e.0 e.1) entries
 
 -- ---- lines that show nothing
 

@@ -1,12 +1,12 @@
 -- How the tree that shows one of the host is put together.
 use Rattle.std.specs.Prelude.{if◌then◌else◌, List, [], ◌∷◌, ◌++◌, Option, None, Some}
-use Rattle.nl_types.specs.declared.reply.Node.TheVariants.{Dir, File}
+use Rattle.nl_types.specs.declared.reply.Object.TheVariants.{Dir, File}
 use Rattle.nl_types.specs.Plain.Paths.{Path, is_within}
 use Rattle.nl_types.specs.Plain.Trees.{Tree, name_below}
 use Rattle.nl_manifests.specs.declared.manifest.Line.{Line}
 use Rattle.nl_manifests.specs.declared.manifest.Manifest.{Manifest}
-use Rattle.nl_manifests.specs.declared.host_tree.HostNode.{HostNode}
-use Rattle.nl_manifests.specs.declared.host_tree.HostNode.TheVariants as host
+use Rattle.nl_manifests.specs.declared.host_tree.HostObject.{HostObject}
+use Rattle.nl_manifests.specs.declared.host_tree.HostObject.TheVariants as host
 use Rattle.nl_manifests.specs.declared.host_tree.HostEntry.{HostEntry}
 use Rattle.nl_manifests.specs.HostTrees.{HostTree, manifest_name}
 use Rattle.nl_manifests.specs.Manifests.{printed}
@@ -23,15 +23,15 @@ manifest_part path None = []
 manifest_part path (Some m) = (path ++ manifest_name ∷ [], File (printed m)) ∷ []
 
 -- what an entry becomes
-abbrev pub sealed_part : Path → HostNode → Option Manifest → Tree
+abbrev pub sealed_part : Path → HostObject → Option Manifest → Tree
 sealed_part path host.Directory own = (path, Dir) ∷ manifest_part path own
 sealed_part path (host.File bytes) own = (path, File bytes) ∷ []
 sealed_part path (host.Link target) own = []
 
 abbrev pub own_manifest : Path × HostEntry → HostTree → Option Manifest
-own_manifest e behind = manifest_with (lines_until e.0 behind) e.1.node e.1.attributes
+own_manifest e behind = manifest_with (lines_until e.0 behind) e.1.object e.1.attributes
 
 -- what all of them become, each by those behind it
 abbrev pub sealed_parts : HostTree → Tree
 sealed_parts [] = []
-sealed_parts (e ∷ tree) = sealed_part e.0 e.1.node (own_manifest e tree) ++ sealed_parts tree
+sealed_parts (e ∷ tree) = sealed_part e.0 e.1.object (own_manifest e tree) ++ sealed_parts tree

@@ -19,7 +19,7 @@ use Rattle.nl_cpfile.specs.Tables.{IsRising, Precedes, all, is_kept_without, kep
 use Rattle.nl_cpfile.specs.declared.checkpoint.Checkpoint.{Checkpoint}
 use Rattle.nl_cpfile.specs.Facts.Found.{eq_by_cmp-nat_cmp, found, found-push}
 use Rattle.nl_cpfile.specs.Facts.Rising.{All-last}
-use Rattle.nl_commit.specs.Commits.{AllNext, IsHistory, IsShownImage, IsNext, applied, shown_after}
+use Rattle.nl_commit.specs.Commits.{AllNext, IsHistory, IsShownState, IsNext, applied, shown_after}
 use Rattle.nl_commit.specs.Shown.{Shown, nothing, pages_shown}
 use Rattle.nl_commit.specs.declared.commit.Commit.{Commit}
 use Rattle.nl_commit.specs.declared.commit.Commit.TheVariants.{Freed, GivenBack, ModeSet, Mounted, RangeRemoved, Removed, Resized, Whole, Written}
@@ -27,7 +27,7 @@ use Rattle.nl_publish.specs.Cached.{CachedPagesStay, IsCachedPage}
 use Rattle.nl_publish.specs.Histories.{IsBegun}
 use Rattle.nl_publish.specs.Facts.Growing.{fold-grows}
 use Rattle.nl_publish.specs.Told.{KeptTreesStay, TreeOn}
-use Rattle.nl_publish.specs.Facts.Staying.{history_image, rest_of, tree_on}
+use Rattle.nl_publish.specs.Facts.Staying.{history_state, rest_of, tree_on}
 
 -- ---- what is kept behind a commit under a number that was given was kept before it
 
@@ -127,14 +127,14 @@ behind x (Resized segments blocks) n given next = record { latest = omega arith;
 -- ---- one commit
 
 module _ (n : ℕ) (P : Holding → Type 0) where
-  -- P is true of what the checkpoint holds in an image, where that keeps it
+  -- P is true of what the checkpoint holds in a state, where that keeps it
   pub record Shows (x : Shown) : Type 0 where
     pub given : n ≤ x.table.latest.number
     pub held : (c : Checkpoint) (held : Holding) → kept_at n x.table ≡ Some c
         → HoldsTree (pages_shown x) (root_of (checkpoint_root c)) held → P held
 
-  step : (x : Shown) (c : Commit) → IsShownImage x → IsNext x c → Shows x → Shows (applied x c)
-  step x c image next shows =
+  step : (x : Shown) (c : Commit) → IsShownState x → IsNext x c → Shows x → Shows (applied x c)
+  step x c state next shows =
       let at = behind x c n shows.given next in
       record {
         given = let given = shows.given in let more = at.latest in omega (arith, given, more);
@@ -148,7 +148,7 @@ module _ (n : ℕ) (P : Holding → Type 0) where
           let pages = pages_shown x in
           let more = pages_shown (applied x c) in
           let keeps = next.keeps n e d was is in
-          let tree = image.trees n e was in
+          let tree = state.trees n e was in
           let root = root_of (checkpoint_root e) in
           let agree : AgreeAtCheckpoint pages more root = λ i level offset v at.
           keeps.pages (record { inode = i; level = level; offset = offset }) v at in
@@ -162,18 +162,18 @@ module _ (n : ℕ) (P : Holding → Type 0) where
 
   -- ---- all that come
 
-  steps : (x : Shown) (more : List Commit) → IsShownImage x → AllNext x more → Shows x
+  steps : (x : Shown) (more : List Commit) → IsShownState x → AllNext x more → Shows x
       → Shows (fold applied x more)
-  steps x [] image next shows = shows
-  steps x (c ∷ more) image next shows =
-      steps (applied x c) more next.0.image next.1 (step x c image next.0 shows)
+  steps x [] state next shows = shows
+  steps x (c ∷ more) state next shows =
+      steps (applied x c) more next.0.state next.1 (step x c state next.0 shows)
 
   pub shows_on : (log later : List Commit) → IsHistory log → IsHistory later → IsPrefix log later
       → Shows (shown_after log) → Shows (shown_after later)
   shows_on log later began history prefix shows =
       let whole : IsHistory (log ++ prefix.0) = subst IsHistory (sym prefix.1) history in
       let after =
-      steps (shown_after log) prefix.0 (history_image log began) (rest_of log prefix.0 whole began) shows in
+      steps (shown_after log) prefix.0 (history_state log began) (rest_of log prefix.0 whole began) shows in
       let at : fold applied (shown_after log) prefix.0 ≡ shown_after later =
       sym (fold-grows nothing log prefix.0) ∙ ap shown_after prefix.1 in
       subst Shows at after
@@ -223,7 +223,7 @@ kept_low (d ∷ earlier) latest rising n c is =
         let up = (All-last (Precedes d) earlier latest rising.0).number in omega (arith, same, up)
     by false h here later = later here
 
--- an image has the tree, where it keeps the checkpoint
+-- a state has the tree, where it keeps the checkpoint
 record HasTree (n : ℕ) (t : Tree) (x : Shown) : Type 0 where
   given : n ≤ x.table.latest.number
   tree : (c : Checkpoint) → kept_at n x.table ≡ Some c → TreeOn x n t
@@ -249,7 +249,7 @@ kept_trees_stay log later n t c history begun prefix tree is =
     let table = (shown_after log).table in
     let has : HasTree n t (shown_after log) = record {
       given =
-          kept_low table.earlier table.latest (history_image log history).table.rising n tree.checkpoint
+          kept_low table.earlier table.latest (history_state log history).table.rising n tree.checkpoint
           tree.kept;
       tree = λ d kept. tree;
     } in

@@ -15,7 +15,7 @@ use Rattle.nl_publish.specs.Histories.{IsBegun}
 use Rattle.nl_publish.specs.KeptHoldings.{HoldsOn, KeptHoldingsStay, MountsHold}
 use Rattle.nl_publish.specs.Facts.CachedPages.{Shows, begun_on, kept_low, shows_on}
 use Rattle.nl_publish.specs.Facts.Growing.{begun_more}
-use Rattle.nl_publish.specs.Facts.Staying.{found_pushed, history_image, new_mount}
+use Rattle.nl_publish.specs.Facts.Staying.{found_pushed, history_state, new_mount}
 
 -- a kept checkpoint holds one thing
 one_held : (x : Shown) (n : ℕ) (c : Checkpoint) (held now : Holding) → HoldsOn x n held
@@ -33,7 +33,7 @@ kept_holdings_stay log later n held now history begun prefix was at =
     let table = (shown_after log).table in
     let shows : Shows n (λ h. h ≡ held) (shown_after log) = record {
       given =
-          kept_low table.earlier table.latest (history_image log history).table.rising n was.checkpoint
+          kept_low table.earlier table.latest (history_state log history).table.rising n was.checkpoint
           was.kept;
       held = λ c h kept holds. one_held (shown_after log) n c held h was kept holds;
     } in
@@ -54,9 +54,9 @@ mounts_hold m claim begun =
     let mounted : mounted_on (shown_after m.told.commits) m.number ≡ Some m.checkpoint =
     ap (λ (x : Shown). mounted_on x m.number) shown
     ∙ found_pushed m.number m.checkpoint (shown_after claim.0).mounts new.none in
-    let image = history_image m.told.commits history in
-    let kept = image.mounted m.number m.checkpoint mounted in
-    let tree = image.trees m.checkpoint kept.0 kept.1 in (
+    let state = history_state m.told.commits history in
+    let kept = state.mounted m.number m.checkpoint mounted in
+    let tree = state.trees m.checkpoint kept.0 kept.1 in (
       history,
       (tree.means.held, record { checkpoint = kept.0; kept = kept.1; holds = tree.means.holds }),
     )

@@ -1,4 +1,4 @@
--- What stays in the images of a history.
+-- What stays in the states of a history.
 use Rattle.std.proofs.Common.{◌≡◌, ℕ, ◌<◌, ◌≤◌, ◌==◌, Bool, true, false, not, List, [], ◌∷◌, ◌++◌, map, fold, length, refl, ap, sym, ◌∙◌, subst, arith, Option, None, Some, cond, true≢false}
 use Rattle.std.proofs.lemmas.Bool.{eq-eqb, eqb-true, ne_eqb}
 use Rattle.std.specs.Cmp.{unsigned_tied}
@@ -9,7 +9,7 @@ use mathlib.Core.List.{IsPrefix}
 use Rattle.nl_types.specs.Plain.Trees.{Tree}
 use Rattle.nl_cpfile.specs.Tables.{kept_at}
 use Rattle.nl_cpfile.specs.declared.checkpoint.Checkpoint.{Checkpoint}
-use Rattle.nl_commit.specs.Commits.{AllNext, IsHistory, IsShownImage, IsNext, IsNew, applied, shown_after}
+use Rattle.nl_commit.specs.Commits.{AllNext, IsHistory, IsShownState, IsNext, IsNew, applied, shown_after}
 use Rattle.nl_commit.specs.Shown.{Shown, mounted_on, whole_of, nothing}
 use Rattle.nl_commit.specs.Volume.{is_other_mount, mount_of}
 use Rattle.nl_commit.specs.declared.commit.Commit.{Commit}
@@ -20,23 +20,23 @@ use Rattle.nl_publish.specs.Mounts.{Claim, IsClaim}
 use Rattle.nl_publish.specs.Told.{MountsBegin, ShowsTold, TreeOn}
 use Rattle.nl_publish.specs.Facts.Growing.{begun_more, fold-grows, history_start}
 
--- ---- images
+-- ---- states
 
-all_images : (x : Shown) (log : List Commit) → IsShownImage x → AllNext x log → IsShownImage (fold applied x log)
-all_images x [] h next = h
-all_images x (c ∷ log) h next = all_images (applied x c) log next.0.image next.1
+all_states : (x : Shown) (log : List Commit) → IsShownState x → AllNext x log → IsShownState (fold applied x log)
+all_states x [] h next = h
+all_states x (c ∷ log) h next = all_states (applied x c) log next.0.state next.1
 
-pub history_image : (log : List Commit) → IsHistory log → IsShownImage (shown_after log)
-history_image [] h = absurd h
-history_image (commit.Whole w ∷ log) h = all_images (whole_of w) log h.0 h.1
-history_image (commit.Written w ∷ log) h = absurd h
-history_image (commit.ModeSet n m ∷ log) h = absurd h
-history_image (commit.Removed n ∷ log) h = absurd h
-history_image (commit.RangeRemoved n m ∷ log) h = absurd h
-history_image (commit.Mounted m ∷ log) h = absurd h
-history_image (commit.GivenBack m ∷ log) h = absurd h
-history_image (commit.Freed w ∷ log) h = absurd h
-history_image (commit.Resized segments blocks ∷ log) h = absurd h
+pub history_state : (log : List Commit) → IsHistory log → IsShownState (shown_after log)
+history_state [] h = absurd h
+history_state (commit.Whole w ∷ log) h = all_states (whole_of w) log h.0 h.1
+history_state (commit.Written w ∷ log) h = absurd h
+history_state (commit.ModeSet n m ∷ log) h = absurd h
+history_state (commit.Removed n ∷ log) h = absurd h
+history_state (commit.RangeRemoved n m ∷ log) h = absurd h
+history_state (commit.Mounted m ∷ log) h = absurd h
+history_state (commit.GivenBack m ∷ log) h = absurd h
+history_state (commit.Freed w ∷ log) h = absurd h
+history_state (commit.Resized segments blocks ∷ log) h = absurd h
 
 -- ---- lists of mounts
 
@@ -204,7 +204,7 @@ shows_on first m k x c next still = record {
   given = given_on x c m next.new still.given;
   shows = λ n is.
       let was = still.shows n (mounted_before x c m n next.new still.given is) in
-      let d = next.image.mounted m n is in
+      let d = next.state.mounted m n is in
       (was.0, λ t tree. tree_on x c n d.0 t next d.1 (was.1 t tree));
 }
 
@@ -216,11 +216,11 @@ shows_all first m k x (c ∷ log) next still =
     shows_all first m k (applied x c) log next.1 (shows_on first m k x c next.0 still)
 
 -- a mount that is found later too shows the checkpoint that it showed
-pub mount_is_same : (x : Shown) (log : List Commit) (m n k : ℕ) → IsShownImage x → AllNext x log
+pub mount_is_same : (x : Shown) (log : List Commit) (m n k : ℕ) → IsShownState x → AllNext x log
     → mounted_on x m ≡ Some n → mounted_on (fold applied x log) m ≡ Some k → k ≡ n
-mount_is_same x log m n k image next was is =
+mount_is_same x log m n k state next was is =
     let first : ShowsStill x m n x = record {
-      given = image.given m n was;
+      given = state.given m n was;
       shows = λ j found. let same : j ≡ n = cc (found, was) in
           (same, λ t tree. subst (λ (i : ℕ). TreeOn x i t) (sym same) tree);
     } in
@@ -270,7 +270,7 @@ new_mount before m k h =
     let next : IsNext (shown_after before) c = (rest_of before (c ∷ []) h begun).0 in
     record {
       next = next;
-      none = λ n is. absurd (omega (arith, (history_image before begun).given m n is, next.new));
+      none = λ n is. absurd (omega (arith, (history_state before begun).given m n is, next.new));
       grown = fold-grows nothing before (c ∷ []);
     }
 
@@ -352,6 +352,6 @@ mount_begins m log claim begun history prefix less =
     (given_all (shown_after log) first.0 (shown_after log).given next (omega arith)) in
     not_some (mounted_on (shown_after log) m.number)
     (λ n is.
-    let low = (history_image log history).given m.number n is in
+    let low = (history_state log history).given m.number n is in
     let above = new.next.new in
     absurd (omega (arith, low, up, above)))

@@ -12,12 +12,12 @@ use Rattle.std.proofs.lemmas.Bool.{and_from, eqb-true, eqb-false, eq-eqb, ne_eqb
 use Rattle.std.proofs.lemmas.List.{length-map, reverse-append, reverse-reverse}
 use Rattle.std.proofs.lemmas.List.Folds.{list_all-append}
 use Rattle.std.proofs.lemmas.Map.Made.{length-le_from_is_member}
-use Rattle.nl_types.specs.declared.reply.Node.{Node}
-use Rattle.nl_types.specs.declared.reply.Node.TheVariants.{Dir, File}
+use Rattle.nl_types.specs.declared.reply.Object.{Object}
+use Rattle.nl_types.specs.declared.reply.Object.TheVariants.{Dir, File}
 use Rattle.nl_types.specs.Plain.Limits.{file_limit, path_limit}
 use Rattle.nl_types.specs.Plain.Paths.{Name, Path, path_cmp, same_path, is_name}
 use Rattle.nl_types.specs.Blocks.Placing.{blocks_from}
-use Rattle.nl_types.specs.Plain.Trees.{Tree, lookup, node_kind}
+use Rattle.nl_types.specs.Plain.Trees.{Tree, lookup, object_kind}
 use Rattle.nl_types.specs.Inodes.{Link, InodeContent, Bytes, Records, Inodes, MeansTree, upward}
 use Rattle.nl_types.specs.InodeLaws.{AreWithinLimits, LimitedInodesMeanTrees}
 use Rattle.nl_types.specs.Facts.TreeLaws.{path_total}
@@ -27,11 +27,11 @@ use Rattle.nl_types.specs.Facts.Inodes.FullVolumes.{row_length}
 use Rattle.nl_types.specs.Facts.Inodes.Walks.{present}
 
 -- a record of what is there
-zipped_there : (a : Option ℕ) (x : Option Node) → is_some a ≡ is_some x → is_some x ≡ true
-    → (link : Link) × (option_zip a (option_map node_kind x) ≡ Some link)
+zipped_there : (a : Option ℕ) (x : Option Object) → is_some a ≡ is_some x → is_some x ≡ true
+    → (link : Link) × (option_zip a (option_map object_kind x) ≡ Some link)
 zipped_there a None e there = cc
 zipped_there None (Some x) e there = cc
-zipped_there (Some i) (Some x) e there = ((i, node_kind x), refl)
+zipped_there (Some i) (Some x) e there = ((i, object_kind x), refl)
 
 module _ (inodes : Inodes) (tree : Tree) (m : MeansTree inodes tree) (w : AreWithinLimits inodes) where
   turned : (path : Path) (name : Name) → reverse (name ∷ reverse path) ≡ path ++ name ∷ []
@@ -86,13 +86,13 @@ module _ (inodes : Inodes) (tree : Tree) (m : MeansTree inodes tree) (w : AreWit
 
   -- ---- how many paths
 
-  abbrev number_of : Path × Node → ℕ
+  abbrev number_of : Path × Object → ℕ
   number_of e = unwrap_or (m.inode_of (reverse e.0)) 0
 
   -- each of these paths has an inode
-  abbrev AreNumbered : List (Path × Node) → Type 0
+  abbrev AreNumbered : List (Path × Object) → Type 0
   AreNumbered entries =
-      AllByRecursion (λ (e : Path × Node). is_some (m.inode_of (reverse e.0)) ≡ true) entries
+      AllByRecursion (λ (e : Path × Object). is_some (m.inode_of (reverse e.0)) ≡ true) entries
 
   number_is : (o : Option ℕ) → is_some o ≡ true → o ≡ Some (unwrap_or o 0)
   number_is None is = cc
@@ -108,7 +108,7 @@ module _ (inodes : Inodes) (tree : Tree) (m : MeansTree inodes tree) (w : AreWit
       (number_is (m.inode_of (reverse q)) b ∙ ap (λ (k : ℕ). Some k) (sym same)) in
       sym (reverse-reverse p) ∙ ap (λ (r : Path). reverse r) turned_same ∙ reverse-reverse q
 
-  apart : (e : Path × Node) (entries : List (Path × Node)) → T (below_all path_cmp e.0 entries)
+  apart : (e : Path × Object) (entries : List (Path × Object)) → T (below_all path_cmp e.0 entries)
       → is_some (m.inode_of (reverse e.0)) ≡ true → AreNumbered entries
       → AllByRecursion (λ y. nat_eq (number_of e) y ≡ false) (map number_of entries)
   apart e [] below there all = tt
@@ -121,7 +121,7 @@ module _ (inodes : Inodes) (tree : Tree) (m : MeansTree inodes tree) (w : AreWit
     apart e entries (second _ _ below) there all.1,
   )
 
-  distinct : (entries : List (Path × Node)) → T (is_sorted path_cmp entries) → AreNumbered entries
+  distinct : (entries : List (Path × Object)) → T (is_sorted path_cmp entries) → AreNumbered entries
       → IsDistinct nat_eq (map number_of entries)
   unfolding IsDistinct
   distinct [] sorted all = tt
@@ -129,16 +129,16 @@ module _ (inodes : Inodes) (tree : Tree) (m : MeansTree inodes tree) (w : AreWit
       (apart e entries (first _ _ sorted) all.0 all.1, distinct entries (second _ _ sorted) all.1)
 
   -- what is found at each key holds of each entry
-  each_found : (P : Path → Type 0) (entries : List (Path × Node))
+  each_found : (P : Path → Type 0) (entries : List (Path × Object))
       → ((q : Path) → is_some (lookup entries q) ≡ true → P q)
-      → AllByRecursion (λ (e : Path × Node). P e.0) entries
+      → AllByRecursion (λ (e : Path × Object). P e.0) entries
   each_found P [] found = tt
   each_found P (e ∷ entries) found = (
     found e.0 (ap (λ b. is_some (cond b (Some e.1) (lookup entries e.0))) (same_path-itself e.0)),
     each_found P entries (λ q there. found q (later (same_path q e.0) (lookup entries q) there)),
   )
     where
-      later : (b : Bool) (o : Option Node) → is_some o ≡ true → is_some (cond b (Some e.1) o) ≡ true
+      later : (b : Bool) (o : Option Object) → is_some o ≡ true → is_some (cond b (Some e.1) o) ≡ true
       later true o there = refl
       later false o there = there
 
@@ -154,12 +154,12 @@ module _ (inodes : Inodes) (tree : Tree) (m : MeansTree inodes tree) (w : AreWit
       let x = present (upward tree p) (sym (m.pairs.paths p) ∙ ap is_some is) in
       by x.0 x.1
     where
-      by : (x : Node) → upward tree p ≡ Some x → (held : InodeContent) × (inodes i ≡ Some held)
+      by : (x : Object) → upward tree p ≡ Some x → (held : InodeContent) × (inodes i ≡ Some held)
       by Dir at = let d = m.pairs.directory p i at is in (Records d.0, d.1)
       by (File bytes) at = (Bytes bytes, m.pairs.file p i bytes at is)
 
   -- each number of a path is in use
-  used : (entries : List (Path × Node)) → AreNumbered entries → (q : ℕ)
+  used : (entries : List (Path × Object)) → AreNumbered entries → (q : ℕ)
       → is_member nat_eq (map number_of entries) q ≡ true → (held : InodeContent) × (inodes q ≡ Some held)
   used [] all q h = cc
   used (e ∷ entries) all q h = ⊎_elim

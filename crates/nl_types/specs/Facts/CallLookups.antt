@@ -6,12 +6,12 @@ use Rattle.std.proofs.lemmas.Option.{same_Some}
 use Rattle.std.specs.FinMap.Entries.{same_entries}
 use Rattle.nl_types.specs.declared.error.VolError.TheVariants as error
 use Rattle.nl_types.specs.declared.reply.Answer.TheVariants as answer
-use Rattle.nl_types.specs.declared.reply.Node.{Node}
-use Rattle.nl_types.specs.declared.reply.Node.TheVariants.{File}
+use Rattle.nl_types.specs.declared.reply.Object.{Object}
+use Rattle.nl_types.specs.declared.reply.Object.TheVariants.{File}
 use Rattle.nl_types.specs.Plain.Limits.{file_limit, path_limit}
 use Rattle.nl_types.specs.Plain.Paths.{Path, path_cmp, same_path, is_within}
 use Rattle.nl_types.specs.Plain.Trees.{Tree, lookup, insert, remove, move_subtree}
-use Rattle.nl_types.specs.Plain.Calls.{Changed, and_then, refuse_if, tree_after, walk, node_at, file_at, dir_at, create, write, overwritten, resized, truncate, unlink, rmdir, has_names, is_root, is_dir, is_above, may_replace, rename}
+use Rattle.nl_types.specs.Plain.Calls.{Changed, and_then, refuse_if, tree_after, walk, object_at, file_at, dir_at, create, write, overwritten, resized, truncate, unlink, rmdir, has_names, is_root, is_dir, is_above, may_replace, rename}
 use Rattle.nl_types.specs.Plain.CallLaws.{CreatesAddOne, WritesChangeOne, EmptyWritesStay, TruncatesChangeOne, UnlinksRemoveOne, RmdirsRemoveOne, RenamesMoveSubtree, RenamedIsBelow, RenamesOntoThemselvesStay, SameLookupsAreOneTree, IsDone, CallsAnswerDone}
 use Rattle.nl_types.specs.Facts.TreeLaws.{path_total, paths_equal, same_path-equal, lookup-insert}
 use Rattle.nl_types.specs.Facts.Judgements.{Leaves, and_then_holds, and_then_any, refuse_if_then, file_at_is}
@@ -22,14 +22,14 @@ use Rattle.nl_types.specs.Facts.Booleans.{holds}
 -- ---- one path
 
 pub creates_add_one : CreatesAddOne
-creates_add_one tree node path =
-    let made : Changed = Ok (answer.Done, insert tree path node) in
+creates_add_one tree object path =
+    let made : Changed = Ok (answer.Done, insert tree path object) in
     and_then_any _ (walk tree path) _ (λ _.
     refuse_if_then _ (is_some (lookup tree path)) error.Exists _ (λ _.
-    refuse_if_then _ (nat_lt path_limit (length tree)) error.TooBig made (λ _. lookup-insert tree path node)))
+    refuse_if_then _ (nat_lt path_limit (length tree)) error.TooBig made (λ _. lookup-insert tree path object)))
 
 -- a file that is found twice has one content
-same_file : (o : Option Node) (bytes old : List ℕ) → o ≡ Some (File bytes) → o ≡ Some (File old) → bytes ≡ old
+same_file : (o : Option Object) (bytes old : List ℕ) → o ≡ Some (File bytes) → o ≡ Some (File old) → bytes ≡ old
 same_file o bytes old found file =
     let same : File bytes ≡ File old = same_Some (File bytes) (File old) (sym found ∙ file) in cc
 
@@ -105,15 +105,15 @@ empty_writes_stay tree offset path =
 pub renames_onto_themselves_stay : RenamesOntoThemselvesStay
 renames_onto_themselves_stay tree path = stays tree (rename tree path path) (
     refuse_if_then (λ done. done.1 ≡ tree) (is_root path || is_root path) error.BadPath _ (λ _.
-    and_then_any (λ done. done.1 ≡ tree) (node_at tree path) _ (λ node.
-    refuse_if_then (λ done. done.1 ≡ tree) (is_dir node && is_above path path) error.IntoItself _ (λ _.
+    and_then_any (λ done. done.1 ≡ tree) (object_at tree path) _ (λ object.
+    refuse_if_then (λ done. done.1 ≡ tree) (is_dir object && is_above path path) error.IntoItself _ (λ _.
     and_then_any (λ done. done.1 ≡ tree) (walk tree path) _ (λ _.
     let made : Changed = Ok (answer.Done, move_subtree tree path path) in
     elim (same_path path path) as (λ b.
     same_path path path ≡ b
     → Leaves (λ next. next ≡ tree)
     (cond {A = Changed} b (Ok (answer.Done, tree))
-    (and_then (may_replace tree path node (lookup tree path)) (λ _. made)))) [
+    (and_then (may_replace tree path object (lookup tree path)) (λ _. made)))) [
       | true ↦ λ _. refl
       | false ↦ λ other. absurd (true≢false (sym (same_path-itself path) ∙ other))
     ] refl)))))
@@ -146,9 +146,9 @@ same_lookups_are_one_tree one other t u same =
 
 -- ---- answers
 
-create-done : (tree : Tree) (node : Node) (path : Path) → IsDone (create tree node path)
-create-done tree node path =
-    let made : Changed = Ok (answer.Done, insert tree path node) in
+create-done : (tree : Tree) (object : Object) (path : Path) → IsDone (create tree object path)
+create-done tree object path =
+    let made : Changed = Ok (answer.Done, insert tree path object) in
     and_then_any (λ done. done.0 ≡ answer.Done) (walk tree path) _ (λ _.
     refuse_if_then (λ done. done.0 ≡ answer.Done) (is_some (lookup tree path)) error.Exists _ (λ _.
     refuse_if_then (λ done. done.0 ≡ answer.Done) (nat_lt path_limit (length tree)) error.TooBig made
@@ -173,22 +173,22 @@ rmdir-done tree path =
 rename-done : (tree : Tree) (from to : Path) → IsDone (rename tree from to)
 rename-done tree from to =
     refuse_if_then (λ done. done.0 ≡ answer.Done) (is_root from || is_root to) error.BadPath _ (λ _.
-    and_then_any (λ done. done.0 ≡ answer.Done) (node_at tree from) _ (λ node.
-    refuse_if_then (λ done. done.0 ≡ answer.Done) (is_dir node && is_above from to) error.IntoItself _ (λ _.
+    and_then_any (λ done. done.0 ≡ answer.Done) (object_at tree from) _ (λ object.
+    refuse_if_then (λ done. done.0 ≡ answer.Done) (is_dir object && is_above from to) error.IntoItself _ (λ _.
     and_then_any (λ done. done.0 ≡ answer.Done) (walk tree to) _ (λ _.
     let made : Changed = Ok (answer.Done, move_subtree tree from to) in
     elim (same_path from to) as (λ b.
     IsDone (cond {A = Changed} b (Ok (answer.Done, tree))
-    (and_then (may_replace tree to node (lookup tree to)) (λ _. made)))) [
+    (and_then (may_replace tree to object (lookup tree to)) (λ _. made)))) [
       | true ↦ refl
       | false ↦
-          and_then_any (λ done. done.0 ≡ answer.Done) (may_replace tree to node (lookup tree to)) _
+          and_then_any (λ done. done.0 ≡ answer.Done) (may_replace tree to object (lookup tree to)) _
           (λ _. refl)
     ]))))
 
 pub calls_answer_done : CallsAnswerDone
 calls_answer_done tree path = record {
-  create = λ node. create-done tree node path;
+  create = λ object. create-done tree object path;
   truncate = λ size. truncate-done tree size path;
   unlink = unlink-done tree path;
   rmdir = rmdir-done tree path;

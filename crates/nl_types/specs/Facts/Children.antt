@@ -10,9 +10,9 @@ use Rattle.std.specs.FinMap.Entries.{below_all}
 use Rattle.std.proofs.Common.{sym, ◌∙◌, ap, subst, T, arith}
 use Rattle.std.proofs.lemmas.Bool.{lt-ltb}
 use Rattle.nl_types.specs.declared.kind.Kind.{Kind}
-use Rattle.nl_types.specs.declared.reply.Node.{Node}
+use Rattle.nl_types.specs.declared.reply.Object.{Object}
 use Rattle.nl_types.specs.Plain.Paths.{Name, Path, name_cmp, path_cmp, same_name, same_path}
-use Rattle.nl_types.specs.Plain.Trees.{Tree, lookup, children, name_below, node_kind}
+use Rattle.nl_types.specs.Plain.Trees.{Tree, lookup, children, name_below, object_kind}
 use Rattle.nl_types.specs.Plain.Calls.{has_names}
 use Rattle.nl_types.specs.Facts.TreeLaws.{same_path-equal}
 use Rattle.nl_types.specs.Facts.Lookups.{path_cmp-append, same_name-itself, same_name-equal}
@@ -51,45 +51,45 @@ child_cmp dir n m = path_cmp-append dir (n ∷ []) (m ∷ []) ∙ then_equal (na
 
 -- ---- look-ups
 
-abbrev shown : Path → Path × Node → Option (Name × Kind)
-shown dir e = option_map (λ name. (name, node_kind e.1)) (name_below dir e.0)
+abbrev shown : Path → Path × Object → Option (Name × Kind)
+shown dir e = option_map (λ name. (name, object_kind e.1)) (name_below dir e.0)
 
-mapped_cond : (b : Bool) (x : Node) (o : Option Node)
-    → option_map node_kind (cond b (Some x) o) ≡ cond b (Some (node_kind x)) (option_map node_kind o)
+mapped_cond : (b : Bool) (x : Object) (o : Option Object)
+    → option_map object_kind (cond b (Some x) o) ≡ cond b (Some (object_kind x)) (option_map object_kind o)
 mapped_cond true x o = refl
 mapped_cond false x o = refl
 
 pub find-children : (tree : Tree) (dir : Path) (n : Name)
-    → find name_cmp n (children tree dir) ≡ option_map node_kind (lookup tree (dir ++ n ∷ []))
+    → find name_cmp n (children tree dir) ≡ option_map object_kind (lookup tree (dir ++ n ∷ []))
 find-children [] dir n = refl
 find-children (e ∷ tree) dir n =
     let rest = find-children tree dir n in
     elim (name_below dir e.0) as (λ o. name_below dir e.0 ≡ o
     → find name_cmp n
-    (cons_option (option_map {U = Name × Kind} (λ name. (name, node_kind e.1)) o) (children tree dir))
-    ≡ option_map node_kind (cond (same_path (dir ++ n ∷ []) e.0) (Some e.1) (lookup tree (dir ++ n ∷ [])))) [
+    (cons_option (option_map {U = Name × Kind} (λ name. (name, object_kind e.1)) o) (children tree dir))
+    ≡ option_map object_kind (cond (same_path (dir ++ n ∷ []) e.0) (Some e.1) (lookup tree (dir ++ n ∷ [])))) [
       | None ↦ λ none.
           let other = not_true (same_path (dir ++ n ∷ []) e.0) (λ same.
           let k : None ≡ Some n =
           sym none ∙ ap (name_below dir) (sym (same_path-equal (dir ++ n ∷ []) e.0 same))
           ∙ name_below-itself dir n in
           cc) in
-          rest ∙ sym (ap (λ b. option_map node_kind (cond b (Some e.1) (lookup tree (dir ++ n ∷ [])))) other)
+          rest ∙ sym (ap (λ b. option_map object_kind (cond b (Some e.1) (lookup tree (dir ++ n ∷ [])))) other)
       | Some m ↦ λ some.
           let test : same_path (dir ++ n ∷ []) e.0 ≡ same_name n m =
           ap (same_path (dir ++ n ∷ [])) (name_below-is dir e.0 m some) ∙ ap is_eq (child_cmp dir n m) in
-          ap (cond (same_name n m) (Some (node_kind e.1))) rest
+          ap (cond (same_name n m) (Some (object_kind e.1))) rest
           ∙ sym (mapped_cond (same_name n m) e.1 (lookup tree (dir ++ n ∷ [])))
-          ∙ sym (ap (λ b. option_map node_kind (cond b (Some e.1) (lookup tree (dir ++ n ∷ [])))) test)
+          ∙ sym (ap (λ b. option_map object_kind (cond b (Some e.1) (lookup tree (dir ++ n ∷ [])))) test)
     ] refl
 
 -- what is found in a directory is among its names
-pub listed : (tree : Tree) (dir : Path) (name : Name) (node : Node)
-    → lookup tree (dir ++ name ∷ []) ≡ Some node → has_names tree dir ≡ true
-listed tree dir name node is =
-    some (children tree dir) (find-children tree dir name ∙ ap (option_map node_kind) is)
+pub listed : (tree : Tree) (dir : Path) (name : Name) (object : Object)
+    → lookup tree (dir ++ name ∷ []) ≡ Some object → has_names tree dir ≡ true
+listed tree dir name object is =
+    some (children tree dir) (find-children tree dir name ∙ ap (option_map object_kind) is)
   where
-    some : (names : List (Name × Kind)) → find name_cmp name names ≡ Some (node_kind node)
+    some : (names : List (Name × Kind)) → find name_cmp name names ≡ Some (object_kind object)
         → nat_lt 0 (length names) ≡ true
     some [] e = cc
     some (n ∷ names) e = lt-ltb 0 (length (n ∷ names)) (omega arith)
@@ -104,7 +104,7 @@ below_children (e ∷ tree) dir n h =
     elim (name_below dir e.0) as (λ o.
     name_below dir e.0 ≡ o
     → T (below_all name_cmp n
-    (cons_option (option_map {U = Name × Kind} (λ name. (name, node_kind e.1)) o) (children tree dir)))) [
+    (cons_option (option_map {U = Name × Kind} (λ name. (name, object_kind e.1)) o) (children tree dir)))) [
       | None ↦ λ none. rest
       | Some m ↦ λ some.
           let less : is_lt (path_cmp (dir ++ n ∷ []) e.0) ≡ is_lt (name_cmp n m) =
@@ -121,7 +121,7 @@ children-sorted (e ∷ tree) dir h =
     elim (name_below dir e.0) as (λ o.
     name_below dir e.0 ≡ o
     → T (is_sorted name_cmp
-    (cons_option (option_map {U = Name × Kind} (λ name. (name, node_kind e.1)) o) (children tree dir)))) [
+    (cons_option (option_map {U = Name × Kind} (λ name. (name, object_kind e.1)) o) (children tree dir)))) [
       | None ↦ λ none. rest
       | Some m ↦
           λ some.

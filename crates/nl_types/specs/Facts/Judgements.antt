@@ -5,12 +5,12 @@ use Rattle.std.specs.Prelude.{nat_lt, ◌==◌, ◌&&◌, IfOk}
 use Rattle.std.specs.Option.{option_or, ok_or}
 use Rattle.nl_types.specs.declared.error.VolError.{VolError}
 use Rattle.nl_types.specs.declared.error.VolError.TheVariants as error
-use Rattle.nl_types.specs.declared.reply.Node.{Node}
-use Rattle.nl_types.specs.declared.reply.Node.TheVariants.{Dir, File}
+use Rattle.nl_types.specs.declared.reply.Object.{Object}
+use Rattle.nl_types.specs.declared.reply.Object.TheVariants.{Dir, File}
 use Rattle.nl_types.specs.Plain.Limits.{file_limit}
 use Rattle.nl_types.specs.Plain.Paths.{Name, Path, path_of, names_of, is_name}
 use Rattle.nl_types.specs.Plain.Trees.{Tree, IsTree, lookup, insert}
-use Rattle.nl_types.specs.Plain.Calls.{Changed, and_then, refuse_if, ok_unless, stops_walk, stop_from, walk, node_at, file_at, file_in, dir_at, dir_in}
+use Rattle.nl_types.specs.Plain.Calls.{Changed, and_then, refuse_if, ok_unless, stops_walk, stop_from, walk, object_at, file_at, file_in, dir_at, dir_in}
 use Rattle.nl_types.specs.Facts.TreeLaws.{IsTree-insert}
 
 -- ---- judgements, one after another
@@ -83,7 +83,7 @@ walk_is tree path = by (stop_from tree [] path)
     by (Some e) = tt
 
 -- a walk that goes on stands on a directory, and is not stopped later
-pub goes_on : (found : Option Node) (later : Option VolError) → option_or (stops_walk found) later ≡ None
+pub goes_on : (found : Option Object) (later : Option VolError) → option_or (stops_walk found) later ≡ None
     → (found ≡ Some Dir) × (later ≡ None)
 goes_on None later is = absurd (true≢false (ap is_some is))
 goes_on (Some Dir) later is = (refl, is)
@@ -99,30 +99,30 @@ walked tree at (n ∷ names) name is =
     subst (λ p. lookup tree p ≡ Some Dir) (append_assoc at (n ∷ []) names)
     (walked tree (at ++ n ∷ []) names name later)
 
--- the node that is answered stands at the path
-pub node_at_is : (tree : Tree) (path : Path) → IfOk (node_at tree path) (λ node. lookup tree path ≡ Some node)
-node_at_is tree path =
-    and_then_any (λ node. lookup tree path ≡ Some node) (walk tree path) _
+-- the object that is answered stands at the path
+pub object_at_is : (tree : Tree) (path : Path) → IfOk (object_at tree path) (λ object. lookup tree path ≡ Some object)
+object_at_is tree path =
+    and_then_any (λ object. lookup tree path ≡ Some object) (walk tree path) _
     (λ _. ok_or_is (lookup tree path) error.NotFound)
 
 -- the bytes that are answered are those of the file at the path
 pub file_at_is : (tree : Tree) (path : Path)
     → IfOk (file_at tree path) (λ bytes. lookup tree path ≡ Some (File bytes))
 file_at_is tree path =
-    and_then_holds _ (λ bytes. lookup tree path ≡ Some (File bytes)) (node_at tree path) file_in
-    (node_at_is tree path) by
+    and_then_holds _ (λ bytes. lookup tree path ≡ Some (File bytes)) (object_at tree path) file_in
+    (object_at_is tree path) by
   where
-    by : (node : Node) → lookup tree path ≡ Some node
-        → IfOk (file_in node) (λ bytes. lookup tree path ≡ Some (File bytes))
+    by : (object : Object) → lookup tree path ≡ Some object
+        → IfOk (file_in object) (λ bytes. lookup tree path ≡ Some (File bytes))
     by Dir found = tt
     by (File bytes) found = found
 
 -- a directory that is judged to be one is there
 pub dir_at_is : (tree : Tree) (path : Path) → IfOk (dir_at tree path) (λ _. lookup tree path ≡ Some Dir)
 dir_at_is tree path =
-    and_then_holds _ (λ _. lookup tree path ≡ Some Dir) (node_at tree path) dir_in (node_at_is tree path) by
+    and_then_holds _ (λ _. lookup tree path ≡ Some Dir) (object_at tree path) dir_in (object_at_is tree path) by
   where
-    by : (node : Node) → lookup tree path ≡ Some node → IfOk (dir_in node) (λ _. lookup tree path ≡ Some Dir)
+    by : (object : Object) → lookup tree path ≡ Some object → IfOk (dir_in object) (λ _. lookup tree path ≡ Some Dir)
     by Dir found = found
     by (File bytes) found = tt
 

@@ -6,8 +6,8 @@ use Rattle.std.proofs.lemmas.Bool.{ltb-false}
 use Rattle.std.specs.FinMap.Entries.{is_sorted-where_key}
 use Rattle.nl_types.specs.declared.error.VolError.TheVariants as error
 use Rattle.nl_types.specs.declared.reply.Answer.TheVariants as answer
-use Rattle.nl_types.specs.declared.reply.Node.{Node}
-use Rattle.nl_types.specs.declared.reply.Node.TheVariants.{Dir, File}
+use Rattle.nl_types.specs.declared.reply.Object.{Object}
+use Rattle.nl_types.specs.declared.reply.Object.TheVariants.{Dir, File}
 use Rattle.nl_types.specs.Plain.Limits.{file_limit, path_limit}
 use Rattle.nl_types.specs.Plain.Paths.{Name, Path, path_of, path_cmp, same_path, is_name}
 use Rattle.nl_types.specs.Plain.Trees.{Tree, IsTree, lookup, insert, remove}
@@ -22,21 +22,21 @@ use Rattle.nl_types.specs.Facts.Subtrees.{length-filtered}
 use Rattle.nl_types.specs.Facts.Renames.{Parents, rename-IsTree}
 use Rattle.nl_types.specs.Facts.Booleans.{is_true, holds}
 
--- ---- a node that is taken out
+-- ---- an object that is taken out
 
-dir_not_file : (o : Option Node) (bytes : List ℕ) → o ≡ Some Dir → o ≡ Some (File bytes) → ⊥
-dir_not_file o bytes dir file = true≢false (ap is_dir_node (sym dir ∙ file))
+dir_not_file : (o : Option Object) (bytes : List ℕ) → o ≡ Some Dir → o ≡ Some (File bytes) → ⊥
+dir_not_file o bytes dir file = true≢false (ap is_dir_object (sym dir ∙ file))
   where
-    is_dir_node : Option Node → Bool
-    is_dir_node None = false
-    is_dir_node (Some Dir) = true
-    is_dir_node (Some (File bytes)) = false
+    is_dir_object : Option Object → Bool
+    is_dir_object None = false
+    is_dir_object (Some Dir) = true
+    is_dir_object (Some (File bytes)) = false
 
 none_if : {A : Type 0} (o : Option A) → ((a : A) → o ≡ Some a → ⊥) → o ≡ None
 none_if None no_value = refl
 none_if (Some a) no_value = absurd (no_value a refl)
 
--- a node with nothing below it is taken out
+-- an object with nothing below it is taken out
 remove-parents : (tree : Tree) (at : Path) → Parents tree
     → ((name : Name) → lookup tree (at ++ name ∷ []) ≡ None) → Parents (remove tree at)
 remove-parents tree at parents empty path name is =
@@ -60,11 +60,11 @@ remove-parents tree at parents empty path name is =
     ] refl
 
 -- what is left after a removal was there
-still_there : (tree : Tree) (at path : Path) (node : Node) → lookup (remove tree at) path ≡ Some node
-    → lookup tree path ≡ Some node
-still_there tree at path node is =
+still_there : (tree : Tree) (at path : Path) (object : Object) → lookup (remove tree at) path ≡ Some object
+    → lookup tree path ≡ Some object
+still_there tree at path object is =
     elim (same_path at path) as (λ b.
-    cond b None (lookup tree path) ≡ Some node → lookup tree path ≡ Some node) [
+    cond b None (lookup tree path) ≡ Some object → lookup tree path ≡ Some object) [
       | true ↦ λ none. absurd (true≢false (sym (ap is_some none)))
       | false ↦ λ some. some
     ] (sym (lookup-remove tree at path) ∙ is)
@@ -81,28 +81,28 @@ IsTree-remove tree at t below_root empty = record {
       ] refl;
   parents = remove-parents tree at t.parents empty;
   names = λ path there.
-      let node = some_node (lookup (remove tree at) path) there in
-      t.names path (ap is_some (still_there tree at path node.0 node.1));
+      let object = some_object (lookup (remove tree at) path) there in
+      t.names path (ap is_some (still_there tree at path object.0 object.1));
   sizes = λ path bytes is. t.sizes path bytes (still_there tree at path (File bytes) is);
-  count = omega (arith, length-filtered (λ (e : Path × Node). not (same_path at e.0)) tree, t.count);
+  count = omega (arith, length-filtered (λ (e : Path × Object). not (same_path at e.0)) tree, t.count);
 }
   where
-    some_node : (o : Option Node) → is_some o ≡ true → (node : Node) × (o ≡ Some node)
-    some_node None is = absurd (true≢false (sym is))
-    some_node (Some node) is = (node, refl)
+    some_object : (o : Option Object) → is_some o ≡ true → (object : Object) × (o ≡ Some object)
+    some_object None is = absurd (true≢false (sym is))
+    some_object (Some object) is = (object, refl)
 
 -- ---- calls
 
--- a node that is made leaves a tree
-pub create-IsTree : (tree : Tree) (node : Node) (path : Path) → IsTree tree → list_all is_name path ≡ true
-    → ((bytes : List ℕ) → node ≡ File bytes → length bytes ≤ file_limit)
-    → Leaves IsTree (create tree node path)
-create-IsTree tree node path t spelled small =
-    let made : Changed = Ok (answer.Done, insert tree path node) in
+-- an object that is made leaves a tree
+pub create-IsTree : (tree : Tree) (object : Object) (path : Path) → IsTree tree → list_all is_name path ≡ true
+    → ((bytes : List ℕ) → object ≡ File bytes → length bytes ≤ file_limit)
+    → Leaves IsTree (create tree object path)
+create-IsTree tree object path t spelled small =
+    let made : Changed = Ok (answer.Done, insert tree path object) in
     and_then_holds _ (λ done. IsTree done.1) (walk tree path) _ (walk_is tree path) (λ _ walking.
     refuse_if_then (λ done. IsTree done.1) (is_some (lookup tree path)) error.Exists _ (λ free.
     refuse_if_then (λ done. IsTree done.1) (nat_lt path_limit (length tree)) error.TooBig made (λ low.
-    IsTree-insert tree path node t (record {
+    IsTree-insert tree path object t (record {
       above = λ up name is. walked tree [] up name (ap (stop_from tree []) is ∙ walking);
       place = λ dir. true≢false (sym (ap is_some dir) ∙ free);
       spelled = spelled;
@@ -149,7 +149,7 @@ unlink-IsTree tree path t =
     (λ root. dir_not_file (lookup tree path) bytes (ap (lookup tree) root ∙ t.root) file)
     (λ name.
     none_if (lookup tree (path ++ name ∷ []))
-    (λ node there. dir_not_file (lookup tree path) bytes (t.parents path name (ap is_some there)) file)))
+    (λ object there. dir_not_file (lookup tree path) bytes (t.parents path name (ap is_some there)) file)))
 
 -- and one of an empty directory
 pub rmdir-IsTree : (tree : Tree) (path : Path) → IsTree tree → Leaves IsTree (rmdir tree path)
@@ -162,7 +162,7 @@ rmdir-IsTree tree path t =
     (λ root. true≢false (sym (ap is_root root) ∙ below_root))
     (λ name.
     none_if (lookup tree (path ++ name ∷ []))
-    (λ node there. true≢false (sym (listed tree path name node there) ∙ none))))))
+    (λ object there. true≢false (sym (listed tree path name object there) ∙ none))))))
 
 -- ---- calls on paths that bytes spell
 

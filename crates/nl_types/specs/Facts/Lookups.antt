@@ -7,7 +7,7 @@ use Rattle.std.specs.Cmp.{tied_itself, alike_right, Equal-is}
 use Rattle.std.specs.Cmp.Lexicographic.{nat_list_cmp_total}
 use Rattle.std.specs.FinMap.{find, IsAntisymmetric, nat_cmp-IsAntisymmetric, slice_cmp-IsAntisymmetric}
 use Rattle.std.specs.FinMap.Entries.{find-where_key}
-use Rattle.nl_types.specs.declared.reply.Node.{Node}
+use Rattle.nl_types.specs.declared.reply.Object.{Object}
 use Rattle.nl_types.specs.Plain.Paths.{Name, Path, name_cmp, path_cmp, same_name, same_path, is_within}
 use Rattle.nl_types.specs.Plain.Trees.{Tree, lookup, remove, move_subtree, moved_path, in_order}
 use Rattle.nl_types.specs.Facts.Booleans.{not_true}
@@ -72,7 +72,7 @@ lookup-remove tree path q =
     (λ x tied. ap (λ r. not (is_eq r)) (sym (alike_right path_total q x path tied))) tree
     ∙ turned (same_path path q) (lookup tree q) None
 
-pub lookup-in_order : (entries : List (Path × Node)) (q : Path)
+pub lookup-in_order : (entries : List (Path × Object)) (q : Path)
     → lookup (in_order entries) q ≡ find path_cmp q entries
 lookup-in_order [] q = refl
 lookup-in_order (e ∷ entries) q =
@@ -82,7 +82,7 @@ lookup-in_order (e ∷ entries) q =
 -- ---- a rename
 
 -- the entries of a tree after a rename, not yet in order
-abbrev pub moved_entries : Path → Path → Tree → List (Path × Node)
+abbrev pub moved_entries : Path → Path → Tree → List (Path × Object)
 moved_entries from to tree =
     map (λ e. (moved_path from to e.0, e.1)) (filter (λ e. not (is_within to e.0)) tree)
 
@@ -141,7 +141,7 @@ module _ (from to : Path) (up : is_within from to ≡ false) (down : is_within t
   pub found_outside : (tree : Tree) (q : Path) → is_within to q ≡ false
       → find path_cmp q (moved_entries from to tree) ≡ cond (is_within from q) None (find path_cmp q tree)
   found_outside [] q outside =
-      elim (is_within from q) as (λ b. ◌≡◌ {A = Option Node} None (cond b None None))
+      elim (is_within from q) as (λ b. ◌≡◌ {A = Option Object} None (cond b None None))
       [ true ↦ refl | false ↦ refl ]
   found_outside (e ∷ tree) q outside =
       let others = found_outside tree q outside in

@@ -1,4 +1,4 @@
--- A rename that is not refused moves a node between paths of which neither lies in the other, and leaves a
+-- A rename that is not refused moves an object between paths of which neither lies in the other, and leaves a
 -- tree.
 use Rattle.std.proofs.Common.{◌≡◌, ℕ, ◌≤◌, Bool, true, false, not, cond, ◌&&◌, ◌||◌, List, [], ◌∷◌, ◌++◌, length, drop, Option, Some, None, Ok, refl, sym, ap, ◌∙◌, subst, true≢false, arith, is_some, is_ok, append_assoc, append-nil}
 use Rattle.std.specs.Prelude.{IfOk}
@@ -10,14 +10,14 @@ use Rattle.nl_types.specs.declared.error.VolError.{VolError}
 use Rattle.nl_types.specs.declared.error.VolError.TheVariants as error
 use Rattle.nl_types.specs.declared.reply.Answer.{Answer}
 use Rattle.nl_types.specs.declared.reply.Answer.TheVariants as answer
-use Rattle.nl_types.specs.declared.reply.Node.{Node}
-use Rattle.nl_types.specs.declared.reply.Node.TheVariants.{Dir, File}
+use Rattle.nl_types.specs.declared.reply.Object.{Object}
+use Rattle.nl_types.specs.declared.reply.Object.TheVariants.{Dir, File}
 use Rattle.nl_types.specs.Plain.Limits.{file_limit}
 use Rattle.nl_types.specs.Plain.Paths.{Name, Path, same_name, same_path, is_within, is_name}
 use Rattle.nl_types.specs.Plain.Trees.{Tree, IsTree, lookup, move_subtree}
-use Rattle.nl_types.specs.Plain.Calls.{Changed, and_then, refuse_if, ok_unless, stop_from, walk, node_at, has_names, is_root, is_dir, is_above, may_replace, rename}
+use Rattle.nl_types.specs.Plain.Calls.{Changed, and_then, refuse_if, ok_unless, stop_from, walk, object_at, has_names, is_root, is_dir, is_above, may_replace, rename}
 use Rattle.nl_types.specs.Facts.TreeLaws.{same_path-equal}
-use Rattle.nl_types.specs.Facts.Judgements.{Leaves, and_then_holds, refuse_if_then, goes_on, node_at_is, ok_is}
+use Rattle.nl_types.specs.Facts.Judgements.{Leaves, and_then_holds, refuse_if_then, goes_on, object_at_is, ok_is}
 use Rattle.nl_types.specs.Facts.Lookups.{same_path-itself, same_name-equal, within_is, lookup-move_subtree}
 use Rattle.nl_types.specs.Facts.Children.{listed}
 use Rattle.nl_types.specs.Facts.Subtrees.{move_subtree-sorted, length-move_subtree}
@@ -106,7 +106,7 @@ pub record IsMove (tree : Tree) (from to : Path) : Type 0 where
   pub above : (path : Path) (name : Name) → path ++ name ∷ [] ≡ to → lookup tree path ≡ Some Dir
 
 module _ (tree : Tree) (from to : Path) (t : IsTree tree) (m : IsMove tree from to) where
-  abbrev after_rename : Path → Option Node
+  abbrev after_rename : Path → Option Object
   after_rename q =
       cond (is_within to q) (lookup tree (from ++ drop (length to) q))
       (cond (is_within from q) None (lookup tree q))
@@ -232,10 +232,10 @@ module _ (tree : Tree) (from to : Path) (t : IsTree tree) (m : IsMove tree from 
       root_stays (n ∷ from) (m ∷ to) up down h = t.root
 
 -- a rename that is not refused is between paths of which neither lies in the other
-pub not_into : (tree : Tree) (from to : Path) (node : Node) → lookup tree from ≡ Some node
-    → (is_dir node && is_above from to) ≡ false → walk tree to ≡ Ok tt → same_path from to ≡ false
+pub not_into : (tree : Tree) (from to : Path) (object : Object) → lookup tree from ≡ Some object
+    → (is_dir object && is_above from to) ≡ false → walk tree to ≡ Ok tt → same_path from to ≡ false
     → is_within from to ≡ false
-not_into tree from to node found judged walking other =
+not_into tree from to object found judged walking other =
     elim (is_within from to) as (λ b. is_within from to ≡ b → b ≡ false) [
       | true ↦ λ inside.
           let below = goes_below from to inside other in
@@ -243,18 +243,18 @@ not_into tree from to node found judged walking other =
           passed tree [] from below.0 below.1
           (not_stopped tree (from ++ below.0 ∷ below.1)
           (subst (λ p. walk tree p ≡ Ok tt) below.2 walking)) in
-          absurd (true≢false (sym (dir_case node (some_inj (sym found ∙ dir))) ∙ by (is_dir node) inside))
+          absurd (true≢false (sym (dir_case object (some_inj (sym found ∙ dir))) ∙ by (is_dir object) inside))
       | false ↦ λ _. refl
     ] refl
   where
-    some_inj : {a b : Node} → Some a ≡ Some b → a ≡ b
-    some_inj {a = a} e = ap (λ (o : Option Node). unwrap_or o a) e
+    some_inj : {a b : Object} → Some a ≡ Some b → a ≡ b
+    some_inj {a = a} e = ap (λ (o : Option Object). unwrap_or o a) e
 
-    dir_case : (n : Node) → n ≡ Dir → is_dir n ≡ true
+    dir_case : (n : Object) → n ≡ Dir → is_dir n ≡ true
     dir_case n e = ap is_dir e
 
-    by : (d : Bool) → is_within from to ≡ true → is_dir node ≡ false
-    by d inside = elim (is_dir node) as (λ b. (b && is_above from to) ≡ false → b ≡ false) [
+    by : (d : Bool) → is_within from to ≡ true → is_dir object ≡ false
+    by d inside = elim (is_dir object) as (λ b. (b && is_above from to) ≡ false → b ≡ false) [
       | true ↦
           λ j.
           absurd (true≢false
@@ -267,10 +267,10 @@ none_in : (b : Bool) (e : VolError) → refuse_if {A = Unit {0}} b e (Ok tt) ≡
 none_in true e is = cc
 none_in false e is = refl
 
-not_onto : (tree : Tree) (from to : Path) (node : Node) → IsTree tree → lookup tree from ≡ Some node
-    → may_replace tree to node (lookup tree to) ≡ Ok tt → same_path from to ≡ false
+not_onto : (tree : Tree) (from to : Path) (object : Object) → IsTree tree → lookup tree from ≡ Some object
+    → may_replace tree to object (lookup tree to) ≡ Ok tt → same_path from to ≡ false
     → is_within to from ≡ false
-not_onto tree from to node t found judged other =
+not_onto tree from to object t found judged other =
     elim (is_within to from) as (λ b. is_within to from ≡ b → b ≡ false) [
       | true ↦ λ inside.
           let below = goes_below to from inside (turned_around other) in
@@ -279,8 +279,8 @@ not_onto tree from to node t found judged other =
           (ap (λ p. is_some (lookup tree p)) (append_assoc to (below.0 ∷ []) below.1 ∙ sym below.2)
           ∙ ap is_some found) in
           let dir = t.parents to below.0 child in
-          absurd (refused node below.0 (some_child (lookup tree (to ++ below.0 ∷ [])) child)
-          (ap (may_replace tree to node) (sym dir) ∙ judged))
+          absurd (refused object below.0 (some_child (lookup tree (to ++ below.0 ∷ [])) child)
+          (ap (may_replace tree to object) (sym dir) ∙ judged))
       | false ↦ λ _. refl
     ] refl
   where
@@ -293,11 +293,11 @@ not_onto tree from to node t found judged other =
       | false ↦ λ _. refl
     ] refl
 
-    some_child : (o : Option Node) → is_some o ≡ true → (n : Node) × (o ≡ Some n)
+    some_child : (o : Option Object) → is_some o ≡ true → (n : Object) × (o ≡ Some n)
     some_child None is = absurd (true≢false (sym is))
     some_child (Some n) is = (n, refl)
 
-    refused : (n : Node) (name : Name) → ((m : Node) × (lookup tree (to ++ name ∷ []) ≡ Some m))
+    refused : (n : Object) (name : Name) → ((m : Object) × (lookup tree (to ++ name ∷ []) ≡ Some m))
         → may_replace tree to n (Some Dir) ≡ Ok tt → ⊥
     refused (File bytes) name child is = true≢false (sym (ap is_ok is))
     refused Dir name child is =
@@ -310,23 +310,23 @@ pub rename_then : (tree : Tree) (from to : Path) (Q : Answer × Tree → Type 0)
     → IfOk (rename tree from to) Q
 rename_then tree from to Q t stays moves =
     refuse_if_then Q (is_root from || is_root to) error.BadPath _ (λ below_root.
-    and_then_holds _ Q (node_at tree from) _ (node_at_is tree from) (λ node there.
-    refuse_if_then Q (is_dir node && is_above from to) error.IntoItself _ (λ outside.
+    and_then_holds _ Q (object_at tree from) _ (object_at_is tree from) (λ object there.
+    refuse_if_then Q (is_dir object && is_above from to) error.IntoItself _ (λ outside.
     and_then_holds _ Q (walk tree to) _ (ok_is (walk tree to)) (λ _ walking.
     let made : Changed = Ok (answer.Done, move_subtree tree from to) in
     elim (same_path from to) as (λ b.
     same_path from to ≡ b
     → IfOk (cond {A = Changed} b (Ok (answer.Done, tree))
-    (and_then (may_replace tree to node (lookup tree to)) (λ _. made)))
+    (and_then (may_replace tree to object (lookup tree to)) (λ _. made)))
     Q) [
       | true ↦ stays
       | false ↦ λ other.
-          and_then_holds _ Q (may_replace tree to node (lookup tree to)) _
-          (ok_is (may_replace tree to node (lookup tree to))) (λ _ judged.
+          and_then_holds _ Q (may_replace tree to object (lookup tree to)) _
+          (ok_is (may_replace tree to object (lookup tree to))) (λ _ judged.
           moves other (record {
             below_root = below_root;
-            up = not_into tree from to node there outside walking other;
-            down = not_onto tree from to node t there judged other;
+            up = not_into tree from to object there outside walking other;
+            down = not_onto tree from to object t there judged other;
             above = λ path name same.
                 parent_by_walk tree path name (subst (λ p. walk tree p ≡ Ok tt) (sym same) walking);
           }))

@@ -4,12 +4,12 @@ use Rattle.std.specs.List.{filter}
 use Rattle.std.specs.FinMap.{is_sorted}
 use Rattle.std.specs.FinMap.Entries.{is_sorted-put, length-put}
 use Rattle.std.proofs.lemmas.List.{length-map}
-use Rattle.nl_types.specs.declared.reply.Node.{Node}
+use Rattle.nl_types.specs.declared.reply.Object.{Object}
 use Rattle.nl_types.specs.Plain.Paths.{Path, path_cmp, is_within}
 use Rattle.nl_types.specs.Plain.Trees.{Tree, lookup, insert, in_order, moved_path, move_subtree}
 use Rattle.nl_types.specs.Facts.TreeLaws.{path_total}
 
-pub in_order-sorted : (entries : List (Path × Node)) → T (is_sorted path_cmp (in_order entries))
+pub in_order-sorted : (entries : List (Path × Object)) → T (is_sorted path_cmp (in_order entries))
 in_order-sorted [] = tt
 in_order-sorted (e ∷ entries) =
     is_sorted-put path_cmp path_total e.0 e.1 (in_order entries) (in_order-sorted entries)
@@ -18,7 +18,7 @@ pub move_subtree-sorted : (tree : Tree) (from to : Path) → T (is_sorted path_c
 move_subtree-sorted tree from to =
     in_order-sorted (map (λ e. (moved_path from to e.0, e.1)) (filter (λ e. not (is_within to e.0)) tree))
 
-length-in_order : (entries : List (Path × Node)) → length (in_order entries) ≤ length entries
+length-in_order : (entries : List (Path × Object)) → length (in_order entries) ≤ length entries
 length-in_order [] = omega arith
 length-in_order (e ∷ entries) =
     one (is_some (lookup (in_order entries) e.0))
@@ -50,6 +50,6 @@ length-move_subtree tree from to =
     omega (
       arith,
       length-in_order entries,
-      length-map {B = Path × Node} kept (λ e. (moved_path from to e.0, e.1)),
-      length-filtered (λ (e : Path × Node). not (is_within to e.0)) tree,
+      length-map {B = Path × Object} kept (λ e. (moved_path from to e.0, e.1)),
+      length-filtered (λ (e : Path × Object). not (is_within to e.0)) tree,
     )

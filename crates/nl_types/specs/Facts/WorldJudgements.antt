@@ -13,12 +13,12 @@ use Rattle.nl_types.specs.declared.event.Change.{Change}
 use Rattle.nl_types.specs.declared.event.Change.TheVariants.{Create, Mkdir, Write, Truncate, Unlink, Rmdir, Rename}
 use Rattle.nl_types.specs.declared.event.Event.TheVariants as event
 use Rattle.nl_types.specs.declared.reply.Answer.TheVariants as answer
-use Rattle.nl_types.specs.declared.reply.Node.{Node}
-use Rattle.nl_types.specs.declared.reply.Node.TheVariants.{Dir, File}
+use Rattle.nl_types.specs.declared.reply.Object.{Object}
+use Rattle.nl_types.specs.declared.reply.Object.TheVariants.{Dir, File}
 use Rattle.nl_types.specs.Plain.Limits.{file_limit, path_limit, checkpoint_number_limit, mount_number_limit}
 use Rattle.nl_types.specs.Plain.Paths.{Path, path_of, same_path, names_of, is_name}
 use Rattle.nl_types.specs.Plain.Trees.{Tree, lookup, insert, remove, move_subtree}
-use Rattle.nl_types.specs.Plain.Calls.{Changed, and_then, refuse_if, ok_unless, stops_walk, stop_from, walk, node_at, file_at, file_in, dir_at, dir_in, is_root, is_dir, is_above, has_names, overwritten, resized, create, write, truncate, unlink, rmdir, may_replace, rename, change, list, stat, reply_to}
+use Rattle.nl_types.specs.Plain.Calls.{Changed, and_then, refuse_if, ok_unless, stops_walk, stop_from, walk, object_at, file_at, file_in, dir_at, dir_in, is_root, is_dir, is_above, has_names, overwritten, resized, create, write, truncate, unlink, rmdir, may_replace, rename, change, list, stat, reply_to}
 use Rattle.nl_types.specs.declared.row.Range.{Range}
 use Rattle.nl_types.specs.declared.row.Row.{Row}
 use Rattle.nl_types.specs.Plain.Rows.{is_snapshot, find_row, kept_row, reason_to_stay, removal, is_between, rows_between, judged_range, is_no_range, range_removal}
@@ -71,7 +71,7 @@ path_judges (b ∷ bytes) =
         ]
 
 -- where the walk goes on, it is judged later
-stops_judge : (found : Option Node) (later : Option VolError) → IfErr (ok_unless later) IsJudged
+stops_judge : (found : Option Object) (later : Option VolError) → IfErr (ok_unless later) IsJudged
     → IfErr (ok_unless (option_or (stops_walk found) later)) IsJudged
 stops_judge None later rest = tt
 stops_judge (Some (File bytes)) later rest = tt
@@ -83,28 +83,28 @@ stop_judges tree at (name ∷ names) =
     stops_judge (lookup tree at) (stop_from tree (at ++ name ∷ []) names)
     (stop_judges tree (at ++ name ∷ []) names)
 
-node_judges : (tree : Tree) (path : Path) → IfErr (node_at tree path) IsJudged
-node_judges tree path =
+object_judges : (tree : Tree) (path : Path) → IfErr (object_at tree path) IsJudged
+object_judges tree path =
     and_then_judges (walk tree path) _ (stop_judges tree [] path)
     (λ _. ok_or_judges (lookup tree path) error.NotFound tt)
 
 file_judges : (tree : Tree) (path : Path) → IfErr (file_at tree path) IsJudged
-file_judges tree path = and_then_judges (node_at tree path) file_in (node_judges tree path) by
+file_judges tree path = and_then_judges (object_at tree path) file_in (object_judges tree path) by
   where
-    by : (node : Node) → IfErr (file_in node) IsJudged
+    by : (object : Object) → IfErr (file_in object) IsJudged
     by Dir = tt
     by (File bytes) = tt
 
 dir_judges : (tree : Tree) (path : Path) → IfErr (dir_at tree path) IsJudged
-dir_judges tree path = and_then_judges (node_at tree path) dir_in (node_judges tree path) by
+dir_judges tree path = and_then_judges (object_at tree path) dir_in (object_judges tree path) by
   where
-    by : (node : Node) → IfErr (dir_in node) IsJudged
+    by : (object : Object) → IfErr (dir_in object) IsJudged
     by Dir = tt
     by (File bytes) = tt
 
-create_judges : (tree : Tree) (node : Node) (path : Path) → IfErr (create tree node path) IsJudged
-create_judges tree node path =
-    let made : Changed = Ok (answer.Done, insert tree path node) in
+create_judges : (tree : Tree) (object : Object) (path : Path) → IfErr (create tree object path) IsJudged
+create_judges tree object path =
+    let made : Changed = Ok (answer.Done, insert tree path object) in
     and_then_judges (walk tree path) _ (stop_judges tree [] path) (λ _.
     refuse_if_judges (is_some (lookup tree path)) error.Exists _ tt
     (refuse_if_judges (nat_lt path_limit (length tree)) error.TooBig made tt tt))
@@ -139,9 +139,9 @@ rmdir_judges tree path =
     (and_then_judges (dir_at tree path) _ (dir_judges tree path) (λ _.
     refuse_if_judges (has_names tree path) error.NotEmpty made tt tt))
 
-may_replace_judges : (tree : Tree) (to : Path) (node : Node) (target : Option Node)
-    → IfErr (may_replace tree to node target) IsJudged
-may_replace_judges tree to node None = tt
+may_replace_judges : (tree : Tree) (to : Path) (object : Object) (target : Option Object)
+    → IfErr (may_replace tree to object target) IsJudged
+may_replace_judges tree to object None = tt
 may_replace_judges tree to (File bytes) (Some Dir) = tt
 may_replace_judges tree to (File bytes) (Some (File others)) = tt
 may_replace_judges tree to Dir (Some (File others)) = tt
@@ -151,17 +151,17 @@ rename_judges : (tree : Tree) (from to : Path) → IfErr (rename tree from to) I
 rename_judges tree from to =
     let made : Changed = Ok (answer.Done, move_subtree tree from to) in
     refuse_if_judges (is_root from || is_root to) error.BadPath _ tt
-    (and_then_judges (node_at tree from) _ (node_judges tree from) (λ node.
-    refuse_if_judges (is_dir node && is_above from to) error.IntoItself _ tt
+    (and_then_judges (object_at tree from) _ (object_judges tree from) (λ object.
+    refuse_if_judges (is_dir object && is_above from to) error.IntoItself _ tt
     (and_then_judges (walk tree to) _ (stop_judges tree [] to) (λ _.
     elim (same_path from to) as (λ b.
     IfErr (cond {A = Changed} b (Ok (answer.Done, tree))
-    (and_then (may_replace tree to node (lookup tree to)) (λ _. made)))
+    (and_then (may_replace tree to object (lookup tree to)) (λ _. made)))
     IsJudged) [
       | true ↦ tt
       | false ↦
-          and_then_judges (may_replace tree to node (lookup tree to)) _
-          (may_replace_judges tree to node (lookup tree to)) (λ _. tt)
+          and_then_judges (may_replace tree to object (lookup tree to)) _
+          (may_replace_judges tree to object (lookup tree to)) (λ _. tt)
     ]))))
 
 change_judges : (tree : Tree) (c : Change) → IfErr (change tree c) IsJudged
@@ -182,7 +182,7 @@ list_judges : (tree : Tree) (path : Path) → IfErr (list tree path) IsJudged
 list_judges tree path = and_then_judges (dir_at tree path) _ (dir_judges tree path) (λ _. tt)
 
 stat_judges : (tree : Tree) (path : Path) → IfErr (stat tree path) IsJudged
-stat_judges tree path = and_then_judges (node_at tree path) _ (node_judges tree path) (λ _. tt)
+stat_judges tree path = and_then_judges (object_at tree path) _ (object_judges tree path) (λ _. tt)
 
 reply_judges : (tree : Tree) (a : Ask) → IfErr (reply_to tree a) IsJudged
 reply_judges tree (ask.Bytes path offset len) =

@@ -13,7 +13,7 @@ use Rattle.nl_types.specs.declared.event.Change.{Change}
 use Rattle.nl_types.specs.declared.event.Mode.{Mode}
 use Rattle.nl_types.specs.declared.event.Mode.TheVariants.{Plain, Snapshot}
 use Rattle.nl_types.specs.declared.reply.Answer.{Answer}
-use Rattle.nl_types.specs.declared.reply.Node.TheVariants.{Dir, File}
+use Rattle.nl_types.specs.declared.reply.Object.TheVariants.{Dir, File}
 use Rattle.nl_types.specs.Plain.Limits.{checkpoint_number_limit, mount_number_limit, file_limit}
 use Rattle.nl_types.specs.Plain.Paths.{Path, Name, is_name}
 use Rattle.nl_types.specs.Plain.Trees.{Tree, IsTree, lookup, root_alone}

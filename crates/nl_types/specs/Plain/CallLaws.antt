@@ -1,8 +1,8 @@
 -- What file calls leave: a tree, and at every path what the call says.
 use Rattle.std.specs.Prelude.{◌≡◌, ℕ, ◌+◌, ◌<◌, max, false, if◌then◌else◌, IfOk, List, [], ◌++◌, length, drop, Option, None, Some}
 use Rattle.nl_types.specs.declared.reply.Answer.TheVariants as answer
-use Rattle.nl_types.specs.declared.reply.Node.{Node}
-use Rattle.nl_types.specs.declared.reply.Node.TheVariants.{File}
+use Rattle.nl_types.specs.declared.reply.Object.{Object}
+use Rattle.nl_types.specs.declared.reply.Object.TheVariants.{File}
 use Rattle.nl_types.specs.Plain.Paths.{Path, path_of, same_path, is_within}
 use Rattle.nl_types.specs.Plain.Trees.{Tree, IsTree, lookup}
 use Rattle.nl_types.specs.Plain.Calls as calls
@@ -43,33 +43,33 @@ RenamesKeepTrees =
 -- ---- what stands at every path
 
 -- what a call that is not refused leaves at every path
-abbrev pub LeavesNodes : (Path → Option Node) → Changed → Type 0
-LeavesNodes nodes changed = IfOk changed (λ done. (q : Path) → lookup done.1 q ≡ nodes q)
+abbrev pub LeavesObjects : (Path → Option Object) → Changed → Type 0
+LeavesObjects objects changed = IfOk changed (λ done. (q : Path) → lookup done.1 q ≡ objects q)
 
 -- this stands at one path, and at every other what the tree has
-abbrev pub with_one : Tree → Path → Option Node → Path → Option Node
-with_one tree path node q = if same_path q path then node else lookup tree q
+abbrev pub with_one : Tree → Path → Option Object → Path → Option Object
+with_one tree path object q = if same_path q path then object else lookup tree q
 
 -- Every path that begins with `to` has what the path with `from` in its place had, however deep it is. None
 -- begins with `from` any more, and every other path has what it had.
-abbrev pub with_moved : Tree → Path → Path → Path → Option Node
+abbrev pub with_moved : Tree → Path → Path → Path → Option Object
 with_moved tree from to q =
     if is_within to q then lookup tree (from ++ drop (length to) q)
     else if is_within from q then None
     else lookup tree q
 
--- a new node stands at its path
+-- a new object stands at its path
 abbrev pub CreatesAddOne : Type 0
 CreatesAddOne =
-    (tree : Tree) (node : Node) (path : Path)
-    → LeavesNodes (with_one tree path (Some node)) (create tree node path)
+    (tree : Tree) (object : Object) (path : Path)
+    → LeavesObjects (with_one tree path (Some object)) (create tree object path)
 
 -- a write of at least one byte leaves the new bytes over the old ones, with zeros between
 abbrev pub WritesChangeOne : Type 0
 WritesChangeOne =
     (tree : Tree) (offset : ℕ) (new old : List ℕ) (path : Path)
     → 0 < length new → lookup tree path ≡ Some (File old)
-    → LeavesNodes (with_one tree path (Some (File (overwritten old offset new)))) (write tree offset new path)
+    → LeavesObjects (with_one tree path (Some (File (overwritten old offset new)))) (write tree offset new path)
 
 -- so the file ends where the new bytes do, if it ended before
 abbrev pub WrittenSizes : Type 0
@@ -85,24 +85,24 @@ EmptyWritesStay =
 abbrev pub TruncatesChangeOne : Type 0
 TruncatesChangeOne =
     (tree : Tree) (size : ℕ) (old : List ℕ) (path : Path) → lookup tree path ≡ Some (File old)
-    → LeavesNodes (with_one tree path (Some (File (resized old size)))) (truncate tree size path)
+    → LeavesObjects (with_one tree path (Some (File (resized old size)))) (truncate tree size path)
 
 abbrev pub TruncatedSizes : Type 0
 TruncatedSizes = (old : List ℕ) (size : ℕ) → length (resized old size) ≡ size
 
 -- nothing is at the path of a file that was removed
 abbrev pub UnlinksRemoveOne : Type 0
-UnlinksRemoveOne = (tree : Tree) (path : Path) → LeavesNodes (with_one tree path None) (unlink tree path)
+UnlinksRemoveOne = (tree : Tree) (path : Path) → LeavesObjects (with_one tree path None) (unlink tree path)
 
 -- nor at that of a directory
 abbrev pub RmdirsRemoveOne : Type 0
-RmdirsRemoveOne = (tree : Tree) (path : Path) → LeavesNodes (with_one tree path None) (rmdir tree path)
+RmdirsRemoveOne = (tree : Tree) (path : Path) → LeavesObjects (with_one tree path None) (rmdir tree path)
 
 -- a rename moves all that lies below
 abbrev pub RenamesMoveSubtree : Type 0
 RenamesMoveSubtree =
     (tree : Tree) (from to : Path) → IsTree tree → same_path from to ≡ false
-    → LeavesNodes (with_moved tree from to) (rename tree from to)
+    → LeavesObjects (with_moved tree from to) (rename tree from to)
 
 -- what was below `from` is found below `to`
 abbrev pub RenamedIsBelow : Type 0
@@ -127,9 +127,9 @@ SameLookupsAreOneTree =
 abbrev pub IsDone : Changed → Type 0
 IsDone changed = IfOk changed (λ done. done.0 ≡ answer.Done)
 
--- the calls that make, resize, remove or move a node answer so
+-- the calls that make, resize, remove or move an object answer so
 pub record AnswersDone (tree : Tree) (path : Path) : Type 0 where
-  pub create : (node : Node) → IsDone (calls.create tree node path)
+  pub create : (object : Object) → IsDone (calls.create tree object path)
   pub truncate : (size : ℕ) → IsDone (calls.truncate tree size path)
   pub unlink : IsDone (calls.unlink tree path)
   pub rmdir : IsDone (calls.rmdir tree path)

@@ -12,8 +12,8 @@ use Rattle.nl_types.specs.declared.reply.Answer.{Answer}
 use Rattle.nl_types.specs.declared.reply.Answer.TheVariants as answer
 use Rattle.nl_types.specs.declared.kind.Kind.{Kind}
 use Rattle.nl_types.specs.declared.reply.Named.{Named}
-use Rattle.nl_types.specs.declared.reply.Node.{Node}
-use Rattle.nl_types.specs.declared.reply.Node.TheVariants.{Dir, File}
+use Rattle.nl_types.specs.declared.reply.Object.{Object}
+use Rattle.nl_types.specs.declared.reply.Object.TheVariants.{Dir, File}
 use Rattle.nl_types.specs.declared.reply.Stat.{Stat}
 use Rattle.nl_types.specs.declared.reply.Stat.TheVariants as status
 use Rattle.nl_types.specs.Plain.Limits.{file_limit, path_limit}
@@ -35,7 +35,7 @@ refuse_if test e next = if test then Err e else next
 -- ---- what stands at a path
 
 -- a step of a walk goes on through a directory alone
-abbrev pub stops_walk : Option Node → Option VolError
+abbrev pub stops_walk : Option Object → Option VolError
 stops_walk None = Some NotFound
 stops_walk (Some (File bytes)) = Some NotDir
 stops_walk (Some Dir) = None
@@ -50,29 +50,29 @@ stop_from tree walked (name ∷ names) =
 abbrev pub walk : Tree → Path → Result (Unit {0}) VolError
 walk tree path = ok_unless (stop_from tree [] path)
 
-abbrev pub node_at : Tree → Path → Result Node VolError
-node_at tree path = and_then (walk tree path) (λ _. ok_or (lookup tree path) NotFound)
+abbrev pub object_at : Tree → Path → Result Object VolError
+object_at tree path = and_then (walk tree path) (λ _. ok_or (lookup tree path) NotFound)
 
-abbrev pub file_in : Node → Result (List ℕ) VolError
+abbrev pub file_in : Object → Result (List ℕ) VolError
 file_in Dir = Err IsDir
 file_in (File bytes) = Ok bytes
 
 -- the bytes of the file at a path
 abbrev pub file_at : Tree → Path → Result (List ℕ) VolError
-file_at tree path = and_then (node_at tree path) file_in
+file_at tree path = and_then (object_at tree path) file_in
 
-abbrev pub dir_in : Node → Result (Unit {0}) VolError
+abbrev pub dir_in : Object → Result (Unit {0}) VolError
 dir_in Dir = Ok tt
 dir_in (File bytes) = Err NotDir
 
 -- that there is a directory at a path
 abbrev pub dir_at : Tree → Path → Result (Unit {0}) VolError
-dir_at tree path = and_then (node_at tree path) dir_in
+dir_at tree path = and_then (object_at tree path) dir_in
 
 abbrev pub is_root : Path → Bool
 is_root path = length path == 0
 
-abbrev pub is_dir : Node → Bool
+abbrev pub is_dir : Object → Bool
 is_dir Dir = true
 is_dir (File bytes) = false
 
@@ -101,13 +101,13 @@ abbrev pub tree_after : Tree → Changed → Tree
 tree_after tree (Ok done) = done.1
 tree_after tree (Err e) = tree
 
--- a new node, which for `create` itself is an empty file
-abbrev pub create : Tree → Node → Path → Changed
-create tree node path =
+-- a new object, which for `create` itself is an empty file
+abbrev pub create : Tree → Object → Path → Changed
+create tree object path =
     and_then (walk tree path) (λ _.
     refuse_if (is_some (lookup tree path)) Exists (
     refuse_if (nat_lt path_limit (length tree)) TooBig (
-    Ok (answer.Done, insert tree path node))))
+    Ok (answer.Done, insert tree path object))))
 
 abbrev pub write : Tree → ℕ → List ℕ → Path → Changed
 write tree offset new path =
@@ -135,9 +135,9 @@ rmdir tree path =
     refuse_if (has_names tree path) NotEmpty (
     Ok (answer.Done, remove tree path))))
 
--- whether a node may take the place of another one, which is not a directory with names in it
-abbrev pub may_replace : Tree → Path → Node → Option Node → Result (Unit {0}) VolError
-may_replace tree to node None = Ok tt
+-- whether an object may take the place of another one, which is not a directory with names in it
+abbrev pub may_replace : Tree → Path → Object → Option Object → Result (Unit {0}) VolError
+may_replace tree to object None = Ok tt
 may_replace tree to (File bytes) (Some Dir) = Err IsDir
 may_replace tree to (File bytes) (Some (File others)) = Ok tt
 may_replace tree to Dir (Some (File others)) = Err NotDir
@@ -151,11 +151,11 @@ is_above top path = is_within top path && not (same_path top path)
 abbrev pub rename : Tree → Path → Path → Changed
 rename tree from to =
     refuse_if (is_root from || is_root to) BadPath (
-    and_then (node_at tree from) (λ node.
-    refuse_if (is_dir node && is_above from to) IntoItself (
+    and_then (object_at tree from) (λ object.
+    refuse_if (is_dir object && is_above from to) IntoItself (
     and_then (walk tree to) (λ _.
     if same_path from to then Ok (answer.Done, tree) else (
-    and_then (may_replace tree to node (lookup tree to)) (λ _.
+    and_then (may_replace tree to object (lookup tree to)) (λ _.
     Ok (answer.Done, move_subtree tree from to)))))))
 
 -- the answer of a change and the tree after it, or its refusal
@@ -188,13 +188,13 @@ named n = record { name = n.0; kind = n.1 }
 abbrev pub list : Tree → Path → Result (List Named) VolError
 list tree path = and_then (dir_at tree path) (λ _. Ok (map named (children tree path)))
 
-abbrev pub stat_of : Tree → Path → Node → Stat
+abbrev pub stat_of : Tree → Path → Object → Stat
 stat_of tree path Dir = status.Dir (length (children tree path))
 stat_of tree path (File bytes) = status.File (length bytes)
 
 -- a file with its size, or a directory with the number of its names
 abbrev pub stat : Tree → Path → Result Stat VolError
-stat tree path = and_then (node_at tree path) (λ node. Ok (stat_of tree path node))
+stat tree path = and_then (object_at tree path) (λ object. Ok (stat_of tree path object))
 
 -- what a tree answers
 abbrev pub reply_to : Tree → Ask → Result Answer VolError

@@ -11,7 +11,7 @@ use Rattle.nl_types.specs.declared.event.Change.{Change}
 use Rattle.nl_types.specs.declared.event.Change.TheVariants.{Rename}
 use Rattle.nl_types.specs.declared.reply.Answer.{Answer}
 use Rattle.nl_types.specs.declared.reply.Answer.TheVariants.{Expired, Mount, Removed}
-use Rattle.nl_types.specs.declared.reply.Node.{Node}
+use Rattle.nl_types.specs.declared.reply.Object.{Object}
 use Rattle.nl_types.specs.Plain.Paths.{Path, path_of, same_path}
 use Rattle.nl_types.specs.Plain.Trees.{Tree, IsTree, lookup, insert}
 use Rattle.nl_types.specs.Plain.Calls.{change, tree_after, is_dirtying}
@@ -24,8 +24,8 @@ use Rattle.nl_types.specs.Plain.Runs.{Step, TakesMemory, memory_alone}
 -- an insert changes what stands at one path
 abbrev pub InsertsOne : Type 0
 InsertsOne =
-    (tree : Tree) (path : Path) (node : Node) (q : Path)
-    → lookup (insert tree path node) q ≡ (if same_path q path then Some node else lookup tree q)
+    (tree : Tree) (path : Path) (object : Object) (q : Path)
+    → lookup (insert tree path object) q ≡ (if same_path q path then Some object else lookup tree q)
 
 -- a path has one spelling
 abbrev pub PathsHaveOneSpelling : Type 0

@@ -1,4 +1,4 @@
--- A tree of directories and files, as a finite map from paths to nodes: the list of its entries, in the order
+-- A tree of directories and files, as a finite map from paths to objects: the list of its entries, in the order
 -- of their paths.
 use Rattle.std.specs.Prelude.{◌≡◌, ℕ, ◌+◌, ◌≤◌, not, if◌then◌else◌, IsTrue, List, [], ◌∷◌, ◌++◌, map, length, drop, is_some, Option, None, Some}
 use Rattle.std.specs.List.{list_all, filter, filter_map}
@@ -6,25 +6,25 @@ use Rattle.std.specs.Option.{option_map}
 use Rattle.std.specs.FinMap.{find, put, is_sorted}
 use Rattle.nl_types.specs.declared.kind.Kind.{Kind}
 use Rattle.nl_types.specs.declared.kind.Kind.TheVariants as kind
-use Rattle.nl_types.specs.declared.reply.Node.{Node}
-use Rattle.nl_types.specs.declared.reply.Node.TheVariants.{Dir, File}
+use Rattle.nl_types.specs.declared.reply.Object.{Object}
+use Rattle.nl_types.specs.declared.reply.Object.TheVariants.{Dir, File}
 use Rattle.nl_types.specs.Plain.Limits.{file_limit, path_limit}
 use Rattle.nl_types.specs.Plain.Paths.{Name, Path, path_cmp, same_name, same_path, is_within, is_name}
 
 abbrev pub Tree : Type 0
-Tree = List (Path × Node)
+Tree = List (Path × Object)
 
 -- the root alone
 abbrev pub root_alone : Tree
 root_alone = ([], Dir) ∷ []
 
 -- what stands at a path
-abbrev pub lookup : Tree → Path → Option Node
+abbrev pub lookup : Tree → Path → Option Object
 lookup tree path = find path_cmp path tree
 
--- the tree with a node at a path
-abbrev pub insert : Tree → Path → Node → Tree
-insert tree path node = put path_cmp path node tree
+-- the tree with an object at a path
+abbrev pub insert : Tree → Path → Object → Tree
+insert tree path object = put path_cmp path object tree
 
 -- the tree with nothing at a path
 abbrev pub remove : Tree → Path → Tree
@@ -40,13 +40,13 @@ name_below [] (n ∷ m ∷ path) = None
 name_below (n ∷ dir) [] = None
 name_below (n ∷ dir) (m ∷ path) = if same_name n m then name_below dir path else None
 
-abbrev pub node_kind : Node → Kind
-node_kind Dir = kind.Directory
-node_kind (File bytes) = kind.File
+abbrev pub object_kind : Object → Kind
+object_kind Dir = kind.Directory
+object_kind (File bytes) = kind.File
 
 -- the names in a directory with their kinds, ascending by bytes
 abbrev pub children : Tree → Path → List (Name × Kind)
-children tree dir = filter_map (λ e. option_map (λ name. (name, node_kind e.1)) (name_below dir e.0)) tree
+children tree dir = filter_map (λ e. option_map (λ name. (name, object_kind e.1)) (name_below dir e.0)) tree
 
 -- ---- moving what lies below a path
 
@@ -55,7 +55,7 @@ abbrev pub moved_path : Path → Path → Path → Path
 moved_path from to path = if is_within from path then to ++ drop (length from) path else path
 
 -- the map of these entries, in order
-abbrev pub in_order : List (Path × Node) → Tree
+abbrev pub in_order : List (Path × Object) → Tree
 in_order [] = []
 in_order (e ∷ entries) = insert (in_order entries) e.0 e.1
 

@@ -19,8 +19,8 @@ loop-entry-init g c = record {
       c.args.kept.now;
 }
 
-pub returns-in_default-clause-fault : goal.returns-in_default-clause-fault
-returns-in_default-clause-fault g c =
+pub returns-in_default-clause-verdict : goal.returns-in_default-clause-verdict
+returns-in_default-clause-verdict g c =
     shape-fails (g.V.VRead.pages c.args.image.now.store.now)
     (g.V.VRead.periods c.args.image.now.store.now) c.args.kept.now c.loop-entry.entry-index
     c.entry-item.result
@@ -55,12 +55,9 @@ loop-entry-preserved g c =
           next.judged;
     }
 
-pub returns-clause-fault : goal.returns-clause-fault
-returns-clause-fault g c =
-    let pages = g.V.VRead.pages c.args.image.now.store.now in
-    let periods = g.V.VRead.periods c.args.image.now.store.now in
-    subst (λ (o : Option ImageCondition).
-    FirstFault pages periods (map told c.args.kept.now) (option_map number_of o)) (sym c.fault_of.ensures)
-    (judged-all pages periods c.args.kept.now c.loop-entry.entry-index c.loop-entry.judged.trees
-    c.loop-entry.judged.periods
-    c.loop-entry-test.false c.loop-entry.invariant.judged)
+pub returns-clause-verdict : goal.returns-clause-verdict
+returns-clause-verdict g c =
+    judged-all (g.V.VRead.pages c.args.image.now.store.now) (g.V.VRead.periods c.args.image.now.store.now)
+    c.args.kept.now c.loop-entry.entry-index
+    (record { trees = c.loop-entry.judged.trees; periods = c.loop-entry.judged.periods })
+    c.loop-entry-test.false c.loop-entry.invariant.judged

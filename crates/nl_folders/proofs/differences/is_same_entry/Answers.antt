@@ -8,7 +8,7 @@ returns-then-is_same_path c =
     let one = c.args.one.now in
     let other = c.args.other.now in
     let paths : c.is_same_path.result ≡ same_path one.0 other.0 = cc in
-    entry_by one other true c.is_same_node.result (sym c.if-is_same_path.true ∙ paths) c.is_same_node.ensures
+    entry_by one other true c.is_same_object.result (sym c.if-is_same_path.true ∙ paths) c.is_same_object.ensures
 
 pub returns-else-is_same_path : goal.returns-else-is_same_path
 returns-else-is_same_path c =

@@ -1,7 +1,7 @@
 use Rattle.std.proofs.Common.{◌≡◌, List, [], ◌∷◌, ◌++◌, length, ap, sym, ◌∙◌, subst, arith, length-append}
 use Rattle.std.proofs.lemmas.Result.{err_from_is_err_and}
 use Rattle.nl_types.specs.declared.kind.Kind.TheVariants.{Directory}
-use Rattle.nl_types.specs.declared.reply.Node.{Node}
+use Rattle.nl_types.specs.declared.reply.Object.{Object}
 use Rattle.nl_types.specs.Plain.Paths.{Path}
 use Rattle.nl_types.specs.Plain.Trees.{Tree}
 use Rattle.nl_folders.specs.declared.folder.Pending.{Pending}
@@ -32,19 +32,19 @@ loop-next-preserved g c = record {
       omega (
         arith,
         ap length c.in_ok-push-2.ensures.ok,
-        length-append {A = Path × Node},
+        length-append {A = Path × Object},
         c.len.ensures,
         c.loop-next.invariant.few,
         c.if-len-eq-MOST_PATHS.false,
       );
-  keeps = g.met.F.Folder.keeps_on _ _ _ c.loop-next.invariant.keeps c.in_ok-node.ensures.keeps;
+  keeps = g.met.F.Folder.keeps_on _ _ _ c.loop-next.invariant.keeps c.in_ok-object.ensures.keeps;
   walk = λ tree t shows.
       let before = c.loop-next.invariant.walk tree t shows in
-      let visit = c.in_ok-node.ensures.visit tree before.0 in (
-        c.in_ok-node.ensures.stays tree before.0,
+      let visit = c.in_ok-object.ensures.visit tree before.0 in (
+        c.in_ok-object.ensures.stays tree before.0,
         subst (λ (done : Tree). IsWalk tree done c.visit.new.pending.items) (sym c.in_ok-push-2.ensures.ok)
             (visited tree c.loop-next.tree c.loop-next.pending.items c.pop.new.self.items
-            c.visit.new.pending.items c.in-Some.next c.in_ok-node.node t before.1 c.in-Some.ensures.items visit),
+            c.visit.new.pending.items c.in-Some.next c.in_ok-object.object t before.1 c.in-Some.ensures.items visit),
       );
 }
 
@@ -56,9 +56,9 @@ returns-then-len-eq-MOST_PATHS-clause-refused g c tree t shows =
     c.in-Some.ensures.items in
     absurd (omega (arith, left, c.len.ensures, c.if-len-eq-MOST_PATHS.true))
 
-pub returns-in_err-node-clause-refused : goal.returns-in_err-node-clause-refused
-returns-in_err-node-clause-refused g c =
-    let exits = c.from_residual-in_err-node in
+pub returns-in_err-object-clause-refused : goal.returns-in_err-object-clause-refused
+returns-in_err-object-clause-refused g c =
+    let exits = c.from_residual-in_err-object in
     let p = err_from_is_err_and exits.result exits.ensures.1 in
     rw (p.1, p.2) (λ tree t shows.
     let before = c.loop-next.invariant.walk tree t shows in
@@ -66,4 +66,4 @@ returns-in_err-node-clause-refused g c =
     let stands =
     top_stands tree c.loop-next.tree c.pop.new.self.items c.loop-next.pending.items next before.1
     c.in-Some.ensures.items in
-    top_refused tree next c.in_err-node.field-0.0 stands (c.in_err-node.ensures.refused tree t before.0 stands))
+    top_refused tree next c.in_err-object.field-0.0 stands (c.in_err-object.ensures.refused tree t before.0 stands))

@@ -12,8 +12,8 @@ returns-then-is_same_path c same =
     c.rest_of-one_rest.ensures ∙ ap (λ (path : Path). drop c.args.one_cut path) c.as_slice.ensures in
     let back : c.rest_of-other_rest.result.now ≡ other.0 =
     c.rest_of-other_rest.ensures ∙ ap (λ (path : Path). drop c.args.other_cut path) c.as_slice-2.ensures in
-    (entry_by one other true c.is_same_node.result
+    (entry_by one other true c.is_same_object.result
     (sym c.if-is_same_path.true ∙ c.is_same_path.ensures
     ∙ ap (λ (path : Path). same_path path c.rest_of-other_rest.result.now) front
     ∙ ap (same_path one.0) back)
-    c.is_same_node.ensures).0 same
+    c.is_same_object.ensures).0 same

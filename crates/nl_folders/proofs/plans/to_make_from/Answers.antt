@@ -14,9 +14,9 @@ loop-index-preserved c =
     (entry_read s.wanted c.wanted-wanted.result.now k f c.wanted-wanted.ensures.value c.index-wanted-index.is)
     (λ sorted.
     lacks_by_read s.come c.come-come.result.now k f.1 (lookup s.present f.0)
-    (option_copied c.find_near-found.result.node) c.is_lacking.result c.come-come.ensures.value
+    (option_copied c.find_near-found.result.object) c.is_lacking.result c.come-come.ensures.value
     (found_there s.present c.present-present.result.now f.0 c.as_slice.result.now
-    (option_copied c.find_near-found.result.node) c.present-present.ensures.value c.as_slice.ensures
+    (option_copied c.find_near-found.result.object) c.present-present.ensures.value c.as_slice.ensures
     c.find_near-found.ensures sorted)
     c.is_lacking.ensures
     ∙ c.if-is_lacking.false)

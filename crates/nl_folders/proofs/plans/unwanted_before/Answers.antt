@@ -19,9 +19,9 @@ loop-left-preserved c =
           c.index-present-index.is)
           (λ sorted.
           goes_by_read s.gone c.gone-gone.result.now k e.1 (lookup s.wanted e.0)
-          (option_copied c.find_near-found.result.node) c.has_to_go.result c.gone-gone.ensures.value
+          (option_copied c.find_near-found.result.object) c.has_to_go.result c.gone-gone.ensures.value
           (found_there s.wanted c.wanted-wanted.result.now e.0 c.as_slice.result.now
-          (option_copied c.find_near-found.result.node) c.wanted-wanted.ensures.value c.as_slice.ensures
+          (option_copied c.find_near-found.result.object) c.wanted-wanted.ensures.value c.as_slice.ensures
           c.find_near-found.ensures sorted)
           c.has_to_go.ensures
           ∙ c.if-has_to_go.false);

@@ -5,5 +5,5 @@ use Rattle.nl_host.proofs.laying_out.lay_out_links.Given as goal
 
 abbrev pub invariant-loop-entry : goal.invariant-loop-entry
 invariant-loop-entry g l =
-    map told_of l.left_out.items ++ flat_map (λ e. link_left_out l.folder e.0 e.1.node) (drop l.entry-index l.entries)
-    ≡ map told_of l.fn.left_out.items ++ flat_map (λ e. link_left_out l.folder e.0 e.1.node) l.entries
+    map told_of l.left_out.items ++ flat_map (λ e. link_left_out l.folder e.0 e.1.object) (drop l.entry-index l.entries)
+    ≡ map told_of l.fn.left_out.items ++ flat_map (λ e. link_left_out l.folder e.0 e.1.object) l.entries

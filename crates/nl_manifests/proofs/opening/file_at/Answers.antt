@@ -1,6 +1,6 @@
 use Rattle.std.proofs.Common.{◌≡◌, IfOk, None, Option, Some, ap, subst, sym, ◌∙◌}
 use Rattle.std.specs.Option.{option_copied}
-use Rattle.nl_types.specs.declared.reply.Node.TheVariants.{File}
+use Rattle.nl_types.specs.declared.reply.Object.TheVariants.{File}
 use Rattle.nl_manifests.specs.declared.host_tree.HostEntry.{HostEntry}
 use Rattle.nl_manifests.specs.HostTrees.{last_name, parted, shown_in}
 use Rattle.nl_manifests.specs.Private.Opening.{above_in}

@@ -26,7 +26,7 @@ returns-in-Some-cache-clause-reads c =
 pub returns-in-Some-cache-clause-touched : goal.returns-in-Some-cache-clause-touched
 returns-in-Some-cache-clause-touched c =
     touches_in
-    (pages_shown c.args.image.now.tables) c.args.tree c.in-Some.found c.args.path.now _ c.in-Some.is
+    (pages_shown c.args.state.now.tables) c.args.tree c.in-Some.found c.args.path.now _ c.in-Some.is
     (λ held holds. (
       c.new-tree.ensures held holds,
       c.requires c.in-Some.found c.in-Some-cache.cache held c.in-Some.is c.in-Some-cache.is holds,

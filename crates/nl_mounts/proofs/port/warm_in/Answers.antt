@@ -12,13 +12,13 @@ returns-in-Some-clause-refused c = of_tree _ c.args.tree c.in-Some.tree _ _ c.in
 
 pub returns-in-Some-clause-warmed : goal.returns-in-Some-clause-warmed
 returns-in-Some-clause-warmed c =
-    warms_in (pages_shown c.args.image.now.tables) c.args.tree c.in-Some.tree c.args.path.now _ c.in-Some.is
+    warms_in (pages_shown c.args.state.now.tables) c.args.tree c.in-Some.tree c.args.path.now _ c.in-Some.is
     (λ held holds. c.new.ensures held holds)
     c.args.offset c.args.len c.args.cache.now c.warm.new.cache c.warm.result c.warm.ensures.warmed
 
 pub returns-in-Some-clause-stored : goal.returns-in-Some-clause-stored
 returns-in-Some-clause-stored c =
-    puts_in (pages_shown c.args.image.now.tables) c.args.tree c.in-Some.tree c.args.path.now _ c.in-Some.is
+    puts_in (pages_shown c.args.state.now.tables) c.args.tree c.in-Some.tree c.args.path.now _ c.in-Some.is
     (λ held holds. c.new.ensures held holds)
     c.args.cache.now c.warm.new.cache c.warm.ensures.stored
 

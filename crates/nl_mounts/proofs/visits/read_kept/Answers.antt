@@ -17,7 +17,7 @@ returns-in-Some c =
           c.answer.ensures on.means.held t
           (c.new.ensures on.means.held
           (subst (λ (d : Checkpoint).
-          HoldsTree (pages_shown c.args.image.now.tables) (root_of (checkpoint_root d)) on.means.held) same
+          HoldsTree (pages_shown c.args.state.now.tables) (root_of (checkpoint_root d)) on.means.held) same
           on.means.holds))
           on.means.means;
     }

@@ -11,20 +11,20 @@ use Rattle.nl_types.specs.declared.reply.Answer.{Answer}
 use Rattle.nl_types.specs.declared.reply.Answer.TheVariants as answer
 use Rattle.nl_types.specs.declared.kind.Kind.{Kind}
 use Rattle.nl_types.specs.declared.kind.Kind.TheVariants as kind
-use Rattle.nl_types.specs.declared.reply.Node.{Node}
-use Rattle.nl_types.specs.declared.reply.Node.TheVariants.{Dir, File}
+use Rattle.nl_types.specs.declared.reply.Object.{Object}
+use Rattle.nl_types.specs.declared.reply.Object.TheVariants.{Dir, File}
 use Rattle.nl_types.specs.Plain.Limits.{file_limit, path_limit}
 use Rattle.nl_types.specs.Plain.Paths.{Name, Path, name_cmp, same_path, is_within}
-use Rattle.nl_types.specs.Plain.Trees.{Tree, lookup, insert, remove, move_subtree, node_kind}
+use Rattle.nl_types.specs.Plain.Trees.{Tree, lookup, insert, remove, move_subtree, object_kind}
 use Rattle.nl_types.specs.Plain.Calls.{Changed, and_then, refuse_if, walk, file_at, overwritten, resized, is_root, is_dir, rename}
-use Rattle.nl_types.specs.Inodes.{Link, InodeContent, Bytes, Records, Inodes, MeansTree, node_of}
+use Rattle.nl_types.specs.Inodes.{Link, InodeContent, Bytes, Records, Inodes, MeansTree, object_of}
 use Rattle.nl_types.specs.InodeChanges.{HasRecords, IsBare, Adds, Refills, Drops, Moves, MovesOnto}
 use Rattle.nl_types.specs.Resolving.{record_in, step_to, resolve_from, resolve, as_dir}
 use Rattle.nl_types.specs.Judging.{Listing, IsListing, bytes_of, bytes_in, has_any, may_take, is_dir_kind, judge_create, judge_rename}
 use Rattle.nl_types.specs.InodeLaws.{MeansPaths}
 use Rattle.nl_types.specs.InodeCallLaws.{LeadsTo, CreatesLead, WritesLead, TruncatesLead, UnlinksLead, RmdirsLead, RenamesLead, RenamesOntoLead}
 use Rattle.nl_types.specs.Facts.Inodes.Standing.{zipped}
-use Rattle.nl_types.specs.Facts.Inodes.Resolving.{inode, child_record, node_held, dir_stands, directories_hold_records, files_hold_bytes, parents_by_inodes}
+use Rattle.nl_types.specs.Facts.Inodes.Resolving.{inode, child_record, object_held, dir_stands, directories_hold_records, files_hold_bytes, parents_by_inodes}
 use Rattle.nl_types.specs.Facts.Inodes.Judging.{files_are_judged, creates_are_judged, rmdirs_are_judged, renames_are_judged}
 use Rattle.nl_types.specs.Facts.Inodes.Changed.{creates_insert, rewrites_insert, removes_remove, renames_move, replaces_move}
 use Rattle.nl_types.specs.Facts.Renames.{not_into}
@@ -89,32 +89,32 @@ resolve-child inodes dir name i e is there =
     ∙ ap (λ (r : Result Link VolError). and_then r (λ x. step_to inodes x name)) is
     ∙ ap (λ (o : Option Link). ok_or o NotFound) there
 
-held_as : (c : InodeContent) (y : Node) (k : Kind) (o : Option Node) → node_of c ≡ y → node_kind y ≡ k
-    → o ≡ Some y → (node_kind (node_of c) ≡ k) × (o ≡ Some (node_of c))
-held_as c y k o e f h = (ap node_kind e ∙ f, h ∙ ap (λ (x : Node). Some x) (sym e))
+held_as : (c : InodeContent) (y : Object) (k : Kind) (o : Option Object) → object_of c ≡ y → object_kind y ≡ k
+    → o ≡ Some y → (object_kind (object_of c) ≡ k) × (o ≡ Some (object_of c))
+held_as c y k o e f h = (ap object_kind e ∙ f, h ∙ ap (λ (x : Object). Some x) (sym e))
 
 module _ (inodes : Inodes) (tree : Tree) (m : MeansTree inodes tree) where
-  mapped : (o : Option InodeContent) (y : Node) → option_map node_of o ≡ Some y
-      → (c : InodeContent) × (o ≡ Some c) × (node_of c ≡ y)
+  mapped : (o : Option InodeContent) (y : Object) → option_map object_of o ≡ Some y
+      → (c : InodeContent) × (o ≡ Some c) × (object_of c ≡ y)
   mapped None y e = cc
   mapped (Some c) y e = (c, refl, (cc))
 
   -- what a record names is there
   link_held : (dir : Path) (name : Name) (i : ℕ) (e : Link) → resolve inodes dir ≡ Ok (i, kind.Directory)
       → record_in (inodes i) name ≡ Some e →
-      (c : InodeContent) × (inodes e.0 ≡ Some c) × (node_kind (node_of c) ≡ e.1)
-      × (lookup tree (dir ++ name ∷ []) ≡ Some (node_of c))
+      (c : InodeContent) × (inodes e.0 ≡ Some c) × (object_kind (object_of c) ≡ e.1)
+      × (lookup tree (dir ++ name ∷ []) ≡ Some (object_of c))
   link_held dir name i e is there =
       let s = dir_stands inodes tree m dir i is in
       let z =
       zipped (inode inodes tree m (dir ++ name ∷ [])) (lookup tree (dir ++ name ∷ [])) e
       (sym (child_record inodes tree m dir name i s.1 s.0) ∙ there) in
-      let c = mapped (inodes e.0) z.1 (node_held inodes tree m (dir ++ name ∷ []) z.1 e.0 z.0 z.2) in
+      let c = mapped (inodes e.0) z.1 (object_held inodes tree m (dir ++ name ∷ []) z.1 e.0 z.0 z.2) in
       let both = held_as c.0 z.1 e.1 (lookup tree (dir ++ name ∷ [])) c.2 z.3 z.2 in
       (c.0, c.1, both.0, both.1)
 
 -- a file is bare, and so is a directory without names
-file_bare : (c : InodeContent) → node_kind (node_of c) ≡ kind.File → IsBare c
+file_bare : (c : InodeContent) → object_kind (object_of c) ≡ kind.File → IsBare c
 file_bare (Bytes bytes) e = tt
 file_bare (Records records) e = cc
 
@@ -131,7 +131,7 @@ dir_bare inodes listing l i (Records records) e none = λ n.
 
 taken_bare : (inodes : Inodes) (listing : Listing) (l : IsListing inodes listing) (k : Kind) (target : Link)
     (c : InodeContent)
-    → inodes target.0 ≡ Some c → node_kind (node_of c) ≡ target.1 →
+    → inodes target.0 ≡ Some c → object_kind (object_of c) ≡ target.1 →
     may_take listing k (Some target) ≡ Ok tt → IsBare c
 taken_bare inodes listing l kind.File (i, kind.Directory) c e kc is = cc
 taken_bare inodes listing l kind.File (i, kind.File) c e kc is = file_bare c kc
@@ -164,24 +164,24 @@ create_found old paths dir name parent judged =
         (found ∙ (λ i. Ok (same i, dirs i)), ap (λ (j : ℕ). record_in (old j) name) (sym same) ∙ none)
 
 pub creates_lead : CreatesLead
-creates_lead old new tree node dir name parent j m judged adds =
+creates_lead old new tree object dir name parent j m judged adds =
     let found = create_found old (length tree) dir name parent judged in
     let h = directories_hold_records old tree m dir parent found.0 in
-    let made = creates_insert old new tree (reverse dir) name node j m (record {
+    let made = creates_insert old new tree (reverse dir) name object j m (record {
       parent = h.0;
       absent = record_held old (reverse dir) h.0 parent name h.1 ∙ found.1;
-      adds = subst (λ (i : ℕ). Adds old new i name node j) (sym h.1) adds;
+      adds = subst (λ (i : ℕ). Adds old new i name object j) (sym h.1) adds;
     }) in
     let same = path_of_child dir name in
     record {
-      tree = insert tree (dir ++ name ∷ []) node;
+      tree = insert tree (dir ++ name ∷ []) object;
       is =
-          creates_are_judged old tree m node dir name
+          creates_are_judged old tree m object dir name
           ∙ ap (λ (r : Result ℕ VolError).
-          and_then r (λ _. Ok (answer.Done, insert tree (dir ++ name ∷ []) node)))
+          and_then r (λ _. Ok (answer.Done, insert tree (dir ++ name ∷ []) object)))
           judged;
-      means = subst (λ (p : Path). MeansTree new (insert tree p node)) same made.means;
-      count = ap (λ (p : Path). length (insert tree p node)) (sym same) ∙ made.count;
+      means = subst (λ (p : Path). MeansTree new (insert tree p object)) same made.means;
+      count = ap (λ (p : Path). length (insert tree p object)) (sym same) ∙ made.count;
     }
 
 -- other bytes at a path
@@ -321,13 +321,13 @@ rmdirs_lead old new tree listing dir name parent i m l is_named none drops =
 -- ---- a rename
 
 -- what a rename that moves something has found
-record Judged (old : Inodes) (tree : Tree) (listing : Listing) (from dir : Path) (name : Name) (x : Node)
+record Judged (old : Inodes) (tree : Tree) (listing : Listing) (from dir : Path) (name : Name) (x : Object)
     (k : Kind) (to : ℕ) : Type 0 where
   away : (is_dir x && (is_within from (dir ++ name ∷ []) && not (same_path from (dir ++ name ∷ [])))) ≡ false
   other : same_path from (dir ++ name ∷ []) ≡ false
   free : may_take listing k (record_in (old to) name) ≡ Ok tt
 
-same_kind : (x : Node) → is_dir_kind (node_kind x) ≡ is_dir x
+same_kind : (x : Object) → is_dir_kind (object_kind x) ≡ is_dir x
 same_kind Dir = refl
 same_kind (File bytes) = refl
 
@@ -337,10 +337,10 @@ moving true r is = cc
 moving false (Ok u) is = (refl, refl)
 moving false (Err e) is = cc
 
-has_judged : (old : Inodes) (tree : Tree) (listing : Listing) (from dir : Path) (name : Name) (x : Node)
+has_judged : (old : Inodes) (tree : Tree) (listing : Listing) (from dir : Path) (name : Name) (x : Object)
     (link : Link) (to : ℕ)
     →
-    judge_rename old listing from dir name ≡ Ok true → resolve old from ≡ Ok link → node_kind x ≡ link.1
+    judge_rename old listing from dir name ≡ Ok true → resolve old from ≡ Ok link → object_kind x ≡ link.1
     → resolve old dir ≡ Ok (to, kind.Directory) → Judged old tree listing from dir name x link.1 to
 has_judged old tree listing from dir name x link to judged found kinds into =
     let below = refuse_if-ok (is_root from || is_root (dir ++ name ∷ [])) BadPath _ true judged in
@@ -388,13 +388,13 @@ module _ (old new : Inodes) (tree : Tree) (listing : Listing) (m : MeansTree old
   abbrev to : Path
   to = td ++ tn ∷ []
 
-  source : (c : InodeContent) × (old link.0 ≡ Some c) × (node_kind (node_of c) ≡ link.1)
-      × (lookup tree from ≡ Some (node_of c))
+  source : (c : InodeContent) × (old link.0 ≡ Some c) × (object_kind (object_of c) ≡ link.1)
+      × (lookup tree from ≡ Some (object_of c))
   source = link_held old tree m fd fn a link found there
 
-  judgement : Judged old tree listing from td tn (node_of source.0) link.1 b
+  judgement : Judged old tree listing from td tn (object_of source.0) link.1 b
   judgement =
-      has_judged old tree listing from td tn (node_of source.0) link b judged
+      has_judged old tree listing from td tn (object_of source.0) link b judged
       (resolve-child old fd fn a link found there) source.2 into
 
   walked : walk tree to ≡ Ok tt
@@ -403,7 +403,7 @@ module _ (old new : Inodes) (tree : Tree) (listing : Listing) (m : MeansTree old
   outside : is_within (reverse (fn ∷ reverse fd)) (reverse (tn ∷ reverse td)) ≡ false
   outside =
       (λ i. is_within (path_of_child fd fn i) (path_of_child td tn i))
-      ∙ not_into tree from to (node_of source.0) source.3 judgement.away walked judgement.other
+      ∙ not_into tree from to (object_of source.0) source.3 judgement.away walked judgement.other
 
   answered : rename tree from to ≡ Ok (answer.Done, move_subtree tree from to)
   answered =

@@ -3,22 +3,22 @@ use Rattle.std.specs.Prelude.{◌≡◌, ℕ, ◌+◌, ◌-◌, true, not, ◌�
 use Rattle.std.specs.FinMap.Entries.{is_sorted-where_key}
 use Rattle.std.proofs.Common.{sym, ◌∙◌, ap, arith}
 use Rattle.std.proofs.lemmas.List.{reverse-reverse}
-use Rattle.nl_types.specs.declared.reply.Node.TheVariants.{File}
+use Rattle.nl_types.specs.declared.reply.Object.TheVariants.{File}
 use Rattle.nl_types.specs.Plain.Paths.{Path, path_cmp, same_path, is_within}
 use Rattle.nl_types.specs.Plain.Trees.{Tree, lookup, move_subtree, remove}
 use Rattle.nl_types.specs.Inodes.{Bytes, upward}
 use Rattle.nl_types.specs.InodeLaws.{CreatesInsert, RewritesInsert, RemovesRemove, RenamesMove, ReplacesMove}
 use Rattle.nl_types.specs.Facts.Inodes.Recording.{absent_below}
-use Rattle.nl_types.specs.Facts.Inodes.Standing.{node_there, child_there, child_absent, records_are, inode_there, dir_there}
+use Rattle.nl_types.specs.Facts.Inodes.Standing.{object_there, child_there, child_absent, records_are, inode_there, dir_there}
 use Rattle.nl_types.specs.Facts.Inodes.Means.{created, rewritten, removed, renamed, replaced, upward_within, not_above, rename_past_removal, replaced_not_above, replaced_free}
 use Rattle.nl_types.specs.Facts.Inodes.TreeCounts.{length-insert_new, length-insert_old, length-remove, length-move_subtree}
 use Rattle.nl_types.specs.Facts.Booleans.{holds}
 
 pub creates_insert : CreatesInsert
-creates_insert old new tree dir name node inode m w = record {
-  means = created old new tree dir name node inode m w;
+creates_insert old new tree dir name object inode m w = record {
+  means = created old new tree dir name object inode m w;
   count =
-      length-insert_new tree (reverse (name ∷ dir)) node (holds _ m.ordered)
+      length-insert_new tree (reverse (name ∷ dir)) object (holds _ m.ordered)
       (child_absent m.rooted m.pairs dir w.parent name w.absent);
 }
 
@@ -27,7 +27,7 @@ rewrites_insert old new tree path bytes m w = record {
   means = rewritten old new tree path bytes m w;
   count =
       length-insert_old tree (reverse path) (File bytes) (File w.held) (holds _ m.ordered)
-      (node_there m.rooted m.pairs path w.inode (Bytes w.held) w.is_reached w.was);
+      (object_there m.rooted m.pairs path w.inode (Bytes w.held) w.is_reached w.was);
 }
 
 one_less : (a b : ℕ) → a + 1 ≡ b → a ≡ b - 1

@@ -7,9 +7,9 @@ use Rattle.std.specs.FinMap.{find, is_sorted}
 use Rattle.std.specs.FinMap.Entries.{below_all, same_entries}
 use Rattle.std.proofs.Common.{sym, ◌∙◌, ap}
 use Rattle.std.proofs.lemmas.List.{reverse-append}
-use Rattle.nl_types.specs.declared.reply.Node.{Node}
+use Rattle.nl_types.specs.declared.reply.Object.{Object}
 use Rattle.nl_types.specs.Plain.Paths.{Name, name_cmp, same_name}
-use Rattle.nl_types.specs.Plain.Trees.{lookup, children, node_kind}
+use Rattle.nl_types.specs.Plain.Trees.{lookup, children, object_kind}
 use Rattle.nl_types.specs.Inodes.{Link, upward}
 use Rattle.nl_types.specs.InodeLaws.{ChildrenAreRecords, with_kind}
 use Rattle.nl_types.specs.Facts.Lookups.{names_equal}
@@ -38,8 +38,8 @@ find_named n (e ∷ listed) =
       | false ↦ find_named n listed
     ]
 
-zip_second : (a : Option ℕ) (x : Option Node) → is_some a ≡ is_some x
-    → option_map (λ (r : Link). r.1) (option_zip a (option_map node_kind x)) ≡ option_map node_kind x
+zip_second : (a : Option ℕ) (x : Option Object) → is_some a ≡ is_some x
+    → option_map (λ (r : Link). r.1) (option_zip a (option_map object_kind x)) ≡ option_map object_kind x
 zip_second None None h = refl
 zip_second None (Some x) h = cc
 zip_second (Some a) None h = refl
@@ -55,4 +55,4 @@ children_are_records inodes tree dir listed m d lists =
     ∙ sym (find_named n listed
     ∙ ap (option_map (λ (r : Link). r.1)) (lists.finds n ∙ records_are m.rooted m.pairs dir d n)
     ∙ zip_second (m.inode_of (n ∷ dir)) (upward tree (n ∷ dir)) (m.pairs.paths (n ∷ dir))
-    ∙ ap (λ p. option_map node_kind (lookup tree p)) (reverse-append (n ∷ []) dir)))
+    ∙ ap (λ p. option_map object_kind (lookup tree p)) (reverse-append (n ∷ []) dir)))

@@ -3,33 +3,33 @@ use Rattle.std.specs.Prelude.{◌≡◌, ℕ, Bool, true, false, List, [], ◌�
 use Rattle.std.specs.Option.{is_some, option_map, option_zip}
 use Rattle.std.proofs.Common.{sym, ◌∙◌, ap, subst, inl, inr, eqb}
 use Rattle.std.proofs.lemmas.Bool.{eqb-true, eqb-false}
-use Rattle.nl_types.specs.declared.reply.Node.{Node}
-use Rattle.nl_types.specs.declared.reply.Node.TheVariants.{Dir, File}
+use Rattle.nl_types.specs.declared.reply.Object.{Object}
+use Rattle.nl_types.specs.declared.reply.Object.TheVariants.{Dir, File}
 use Rattle.nl_types.specs.Plain.Paths.{Name, Path}
-use Rattle.nl_types.specs.Plain.Trees.{node_kind}
+use Rattle.nl_types.specs.Plain.Trees.{object_kind}
 use Rattle.nl_types.specs.Inodes.{Link, InodeContent, Bytes, Records, Inodes, IsRooted, Pairs, record_of}
 use Rattle.nl_types.specs.InodeChanges.{HoldsChanged, put_record, fresh_content}
 use Rattle.nl_types.specs.Facts.Inodes.Walks.{absent}
 use Rattle.nl_types.specs.Facts.Inodes.Ways.{path_cases, name_cases, longer, put_at, put_at-there, put_at-other}
 use Rattle.nl_types.specs.Facts.Inodes.Recording.{clash, same_value, same_child, put_record-there, put_record-dir, put_record-name, record_cong, absent_below}
 
-module _ (inodes inodes' : Inodes) (tree : Path → Option Node) (f : Path → Option ℕ) (name : Name)
-    (dir : Path) (node : Node) (j : ℕ)
+module _ (inodes inodes' : Inodes) (tree : Path → Option Object) (f : Path → Option ℕ) (name : Name)
+    (dir : Path) (object : Object) (j : ℕ)
     (t : IsRooted tree) (m : Pairs inodes tree f) (parent : ℕ) (parent_is : f dir ≡ Some parent)
     (in_dir : tree dir ≡ Some Dir) (none : tree (name ∷ dir) ≡ None)
-    (free : inodes j ≡ None) (added : inodes' j ≡ Some (fresh_content node))
+    (free : inodes j ≡ None) (added : inodes' j ≡ Some (fresh_content object))
     (others : (i : ℕ) → (i ≡ j → ⊥)
-    → HoldsChanged (put_record parent name (Some (j, node_kind node)) i) (inodes i) (inodes' i)) where
+    → HoldsChanged (put_record parent name (Some (j, object_kind object)) i) (inodes i) (inodes' i)) where
   abbrev pub f' : Path → Option ℕ
   f' = put_at (name ∷ dir) (Some j) f
 
-  abbrev pub tree' : Path → Option Node
-  tree' = put_at (name ∷ dir) (Some node) tree
+  abbrev pub tree' : Path → Option Object
+  tree' = put_at (name ∷ dir) (Some object) tree
 
   gone : (q : Path) → tree q ≡ None → f q ≡ None
-  gone q e = absent (f q) (m.paths q ∙ ap (λ (o : Option Node). is_some o) e)
+  gone q e = absent (f q) (m.paths q ∙ ap (λ (o : Option Object). is_some o) e)
 
-  in_use : (q : Path) (i : ℕ) (o : Option Node) → tree q ≡ o → f q ≡ Some i → inodes i ≡ None → ⊥
+  in_use : (q : Path) (i : ℕ) (o : Option Object) → tree q ≡ o → f q ≡ Some i → inodes i ≡ None → ⊥
   in_use q i None e k z = clash (f q) i (gone q e) k
   in_use q i (Some Dir) e k z = let d = m.directory q i e k in clash (inodes i) (Records d.0) z d.1
   in_use q i (Some (File bytes)) e k z = clash (inodes i) (Bytes bytes) z (m.file q i bytes e k)
@@ -38,40 +38,40 @@ module _ (inodes inodes' : Inodes) (tree : Path → Option Node) (f : Path → O
   not_new q i k e = in_use q i (tree q) refl k (ap inodes e ∙ free)
 
   holds : (q : Path) (i : ℕ) (o : Option InodeContent) → f q ≡ Some i → inodes i ≡ o
-      → HoldsChanged (put_record parent name (Some (j, node_kind node)) i) o (inodes' i)
+      → HoldsChanged (put_record parent name (Some (j, object_kind object)) i) o (inodes' i)
   holds q i o k e =
       subst (λ (x : Option InodeContent).
-      HoldsChanged (put_record parent name (Some (j, node_kind node)) i) x (inodes' i))
+      HoldsChanged (put_record parent name (Some (j, object_kind object)) i) x (inodes' i))
       e
       (others i (not_new q i k))
 
-  record_new : (a : Option ℕ) (x : Option Node) → a ≡ Some j → x ≡ Some node
-      → Some (j, node_kind node) ≡ option_zip a (option_map node_kind x)
+  record_new : (a : Option ℕ) (x : Option Object) → a ≡ Some j → x ≡ Some object
+      → Some (j, object_kind object) ≡ option_zip a (option_map object_kind x)
   record_new a x e k = rw (e, k) refl
 
   record_at : (q : Path) (i : ℕ) (n : Name) (old : Option Link) → f q ≡ Some i
       → old ≡ record_of tree f (n ∷ q) →
-      put_record parent name (Some (j, node_kind node)) i n old ≡ record_of tree' f' (n ∷ q)
+      put_record parent name (Some (j, object_kind object)) i n old ≡ record_of tree' f' (n ∷ q)
   record_at q i n old fq is = elim (path_cases (n ∷ q) (name ∷ dir)) [
     | inl y ↦ here y.1
     | inr x ↦
         apart x.1
         ∙ (is
         ∙ sym (record_cong _ _ _ _ (put_at-other (name ∷ dir) (Some j) f (n ∷ q) x.1)
-        (put_at-other (name ∷ dir) (Some node) tree (n ∷ q) x.1)))
+        (put_at-other (name ∷ dir) (Some object) tree (n ∷ q) x.1)))
   ]
     where
       here : n ∷ q ≡ name ∷ dir
-          → put_record parent name (Some (j, node_kind node)) i n old ≡ record_of tree' f' (n ∷ q)
+          → put_record parent name (Some (j, object_kind object)) i n old ≡ record_of tree' f' (n ∷ q)
       here y =
           let en : n ≡ name = cc in
           let ep : q ≡ dir = cc in
           let at : i ≡ parent = same_value (f q) i parent fq (ap f ep ∙ parent_is) in
-          put_record-there parent name (Some (j, node_kind node)) i n old at en
+          put_record-there parent name (Some (j, object_kind object)) i n old at en
           ∙ record_new _ _ (ap f' y ∙ put_at-there (name ∷ dir) (Some j) f)
-          (ap tree' y ∙ put_at-there (name ∷ dir) (Some node) tree)
+          (ap tree' y ∙ put_at-there (name ∷ dir) (Some object) tree)
 
-      apart : (n ∷ q ≡ name ∷ dir → ⊥) → put_record parent name (Some (j, node_kind node)) i n old ≡ old
+      apart : (n ∷ q ≡ name ∷ dir → ⊥) → put_record parent name (Some (j, object_kind object)) i n old ≡ old
       apart ne = elim (name_cases n name) [
         | inl y ↦
             put_record-dir parent name _ i n old
@@ -85,7 +85,7 @@ module _ (inodes inodes' : Inodes) (tree : Path → Option Node) (f : Path → O
   new_directory n = sym (record_cong _ _ _ _
       (put_at-other (name ∷ dir) (Some j) f (n ∷ (name ∷ dir)) (longer n [] (name ∷ dir))
       ∙ gone (n ∷ (name ∷ dir)) nothing)
-      (put_at-other (name ∷ dir) (Some node) tree (n ∷ (name ∷ dir)) (longer n [] (name ∷ dir)) ∙ nothing))
+      (put_at-other (name ∷ dir) (Some object) tree (n ∷ (name ∷ dir)) (longer n [] (name ∷ dir)) ∙ nothing))
     where
       nothing : tree (n ∷ (name ∷ dir)) ≡ None
       nothing = absent_below tree t (name ∷ dir) (n ∷ []) none
@@ -98,17 +98,17 @@ module _ (inodes inodes' : Inodes) (tree : Path → Option Node) (f : Path → O
   directory_here : DirectoryAt (name ∷ dir)
   directory_here i d e =
       let at : j ≡ i = same_value (f' (name ∷ dir)) j i (put_at-there (name ∷ dir) (Some j) f) e in
-      let is : node ≡ Dir =
-      same_value (tree' (name ∷ dir)) node Dir (put_at-there (name ∷ dir) (Some node) tree) d in (
+      let is : object ≡ Dir =
+      same_value (tree' (name ∷ dir)) object Dir (put_at-there (name ∷ dir) (Some object) tree) d in (
         (λ n. None),
-        ap inodes' (sym at) ∙ (added ∙ ap (λ (x : Node). Some (fresh_content x)) is),
+        ap inodes' (sym at) ∙ (added ∙ ap (λ (x : Object). Some (fresh_content x)) is),
         λ n. new_directory n,
       )
 
   directory_else : (q : Path) → (q ≡ name ∷ dir → ⊥) → DirectoryAt q
   directory_else q ne i d e =
       let fq : f q ≡ Some i = sym (put_at-other (name ∷ dir) (Some j) f q ne) ∙ e in
-      let tq : tree q ≡ Some Dir = sym (put_at-other (name ∷ dir) (Some node) tree q ne) ∙ d in
+      let tq : tree q ≡ Some Dir = sym (put_at-other (name ∷ dir) (Some object) tree q ne) ∙ d in
       let k = m.directory q i tq fq in
       let c = holds q i (Some (Records k.0)) fq k.1 in
       (c.0, c.1, λ n. c.2 n ∙ record_at q i n (k.0 n) fq (k.2 n))
@@ -120,14 +120,14 @@ module _ (inodes inodes' : Inodes) (tree : Path → Option Node) (f : Path → O
   file_here : FileAt (name ∷ dir)
   file_here i bytes d e =
       let at : j ≡ i = same_value (f' (name ∷ dir)) j i (put_at-there (name ∷ dir) (Some j) f) e in
-      let is : node ≡ File bytes =
-      same_value (tree' (name ∷ dir)) node (File bytes) (put_at-there (name ∷ dir) (Some node) tree) d in
-      ap inodes' (sym at) ∙ (added ∙ ap (λ (x : Node). Some (fresh_content x)) is)
+      let is : object ≡ File bytes =
+      same_value (tree' (name ∷ dir)) object (File bytes) (put_at-there (name ∷ dir) (Some object) tree) d in
+      ap inodes' (sym at) ∙ (added ∙ ap (λ (x : Object). Some (fresh_content x)) is)
 
   file_else : (q : Path) → (q ≡ name ∷ dir → ⊥) → FileAt q
   file_else q ne i bytes d e =
       let fq : f q ≡ Some i = sym (put_at-other (name ∷ dir) (Some j) f q ne) ∙ e in
-      let tq : tree q ≡ Some (File bytes) = sym (put_at-other (name ∷ dir) (Some node) tree q ne) ∙ d in
+      let tq : tree q ≡ Some (File bytes) = sym (put_at-other (name ∷ dir) (Some object) tree q ne) ∙ d in
       holds q i (Some (Bytes bytes)) fq (m.file q i bytes tq fq)
 
   at_each : (P : Path → Type 0) → P (name ∷ dir) → ((q : Path) → (q ≡ name ∷ dir → ⊥) → P q) → (q : Path)
@@ -158,7 +158,7 @@ module _ (inodes inodes' : Inodes) (tree : Path → Option Node) (f : Path → O
   was_there i None c ne e k =
       absurd (clash (inodes' i) c
       (subst (λ (o : Option InodeContent).
-      HoldsChanged (put_record parent name (Some (j, node_kind node)) i) o (inodes' i))
+      HoldsChanged (put_record parent name (Some (j, object_kind object)) i) o (inodes' i))
       e
       (others i ne))
       k)
@@ -192,10 +192,10 @@ module _ (inodes inodes' : Inodes) (tree : Path → Option Node) (f : Path → O
     root = put_at-other (name ∷ dir) (Some j) f [] root_apart ∙ m.root;
     paths = at_each ThereTogether
         (ap (λ (o : Option ℕ). is_some o) (put_at-there (name ∷ dir) (Some j) f)
-        ∙ ap (λ (o : Option Node). is_some o) (sym (put_at-there (name ∷ dir) (Some node) tree)))
+        ∙ ap (λ (o : Option Object). is_some o) (sym (put_at-there (name ∷ dir) (Some object) tree)))
         (λ q ne. ap (λ (o : Option ℕ). is_some o) (put_at-other (name ∷ dir) (Some j) f q ne)
         ∙ (m.paths q
-        ∙ ap (λ (o : Option Node). is_some o) (sym (put_at-other (name ∷ dir) (Some node) tree q ne))));
+        ∙ ap (λ (o : Option Object). is_some o) (sym (put_at-other (name ∷ dir) (Some object) tree q ne))));
     once = once';
     all = all';
     directory = at_each DirectoryAt directory_here directory_else;
@@ -203,24 +203,24 @@ module _ (inodes inodes' : Inodes) (tree : Path → Option Node) (f : Path → O
   }
 
   abbrev HasParent : Path → Type 0
-  HasParent q = (n : Name) (p : Path) (x : Node) → q ≡ n ∷ p → tree' q ≡ Some x → tree' p ≡ Some Dir
+  HasParent q = (n : Name) (p : Path) (x : Object) → q ≡ n ∷ p → tree' q ≡ Some x → tree' p ≡ Some Dir
 
   parent_here : HasParent (name ∷ dir)
   parent_here n p x e k =
       let ep : p ≡ dir = cc in
       ap tree' ep
-      ∙ (put_at-other (name ∷ dir) (Some node) tree dir (λ y. longer name [] dir (sym y)) ∙ in_dir)
+      ∙ (put_at-other (name ∷ dir) (Some object) tree dir (λ y. longer name [] dir (sym y)) ∙ in_dir)
 
   parent_else : (q : Path) → (q ≡ name ∷ dir → ⊥) → HasParent q
   parent_else q ne n p x e k =
       let there : tree p ≡ Some Dir =
-      t.parents n p x (ap tree (sym e) ∙ (sym (put_at-other (name ∷ dir) (Some node) tree q ne) ∙ k)) in
-      put_at-other (name ∷ dir) (Some node) tree p
+      t.parents n p x (ap tree (sym e) ∙ (sym (put_at-other (name ∷ dir) (Some object) tree q ne) ∙ k)) in
+      put_at-other (name ∷ dir) (Some object) tree p
       (λ y. clash (tree (name ∷ dir)) Dir none (ap tree (sym y) ∙ there))
       ∙ there
 
-  pub created_rooted : IsRooted (put_at (name ∷ dir) (Some node) tree)
+  pub created_rooted : IsRooted (put_at (name ∷ dir) (Some object) tree)
   created_rooted = record {
-    root = put_at-other (name ∷ dir) (Some node) tree [] root_apart ∙ t.root;
+    root = put_at-other (name ∷ dir) (Some object) tree [] root_apart ∙ t.root;
     parents = λ n p x k. at_each HasParent parent_here parent_else (n ∷ p) n p x refl k;
   }

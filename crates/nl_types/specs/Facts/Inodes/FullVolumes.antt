@@ -8,7 +8,7 @@ use Rattle.std.specs.Set.{is_member}
 use Rattle.std.proofs.lemmas.Bool.{eqb-true, eq-eqb, ne_eqb, or_cases}
 use Rattle.std.proofs.lemmas.List.{length-map, reverse-reverse}
 use Rattle.std.proofs.lemmas.Map.Made.{length-le_from_is_member}
-use Rattle.nl_types.specs.declared.reply.Node.{Node}
+use Rattle.nl_types.specs.declared.reply.Object.{Object}
 use Rattle.nl_types.specs.Plain.Paths.{Path, same_path}
 use Rattle.nl_types.specs.Blocks.Placing.{blocks_from}
 use Rattle.nl_types.specs.Plain.Trees.{Tree, lookup}
@@ -46,7 +46,7 @@ distinct_numbers n = (
   distinct_row 11 n,
 )
 
-abbrev number_at : (Path → Option ℕ) → Path × Node → ℕ
+abbrev number_at : (Path → Option ℕ) → Path × Object → ℕ
 number_at f e = unwrap_or (f (reverse e.0)) 0
 
 -- the number of a path that is there is among those of all paths

@@ -9,14 +9,14 @@ use Rattle.nl_types.specs.declared.reply.Answer.TheVariants as answer
 use Rattle.nl_types.specs.declared.kind.Kind.{Kind}
 use Rattle.nl_types.specs.declared.kind.Kind.TheVariants as kind
 use Rattle.nl_types.specs.declared.reply.Named.{Named}
-use Rattle.nl_types.specs.declared.reply.Node.{Node}
-use Rattle.nl_types.specs.declared.reply.Node.TheVariants.{Dir, File}
+use Rattle.nl_types.specs.declared.reply.Object.{Object}
+use Rattle.nl_types.specs.declared.reply.Object.TheVariants.{Dir, File}
 use Rattle.nl_types.specs.declared.reply.Stat.TheVariants as status
 use Rattle.nl_types.specs.Plain.Limits.{path_limit}
 use Rattle.nl_types.specs.Plain.Paths.{Name, Path, same_path}
 use Rattle.nl_types.specs.Plain.Trees as trees
-use Rattle.nl_types.specs.Plain.Trees.{Tree, lookup, insert, remove, move_subtree, node_kind}
-use Rattle.nl_types.specs.Plain.Calls.{Changed, and_then, refuse_if, ok_unless, stops_walk, stop_from, walk, node_at, file_at, dir_at, create, rmdir, has_names, is_root, is_dir, is_above, may_replace, rename, list, named, stat}
+use Rattle.nl_types.specs.Plain.Trees.{Tree, lookup, insert, remove, move_subtree, object_kind}
+use Rattle.nl_types.specs.Plain.Calls.{Changed, and_then, refuse_if, ok_unless, stops_walk, stop_from, walk, object_at, file_at, dir_at, create, rmdir, has_names, is_root, is_dir, is_above, may_replace, rename, list, named, stat}
 use Rattle.nl_types.specs.Inodes.{Link, Inodes, MeansTree}
 use Rattle.nl_types.specs.Resolving.{record_in, resolve, as_dir}
 use Rattle.nl_types.specs.Judging.{Listing, IsListing, bytes_in, has_any, is_dir_kind, may_take, judge_create, judge_rmdir, judge_rename, judge_list, shown, stat_in}
@@ -39,9 +39,9 @@ files_are_judged inodes tree m path =
     (λ k h. rw (k, h) refl)
     there
   where
-    there : (i : ℕ) (node : Node) → stop_from tree [] path ≡ None → lookup tree path ≡ Some node
+    there : (i : ℕ) (object : Object) → stop_from tree [] path ≡ None → lookup tree path ≡ Some object
         → inode inodes tree m path ≡ Some i
-        → file_at tree path ≡ and_then (Ok (i, node_kind node)) (bytes_in inodes)
+        → file_at tree path ≡ and_then (Ok (i, object_kind object)) (bytes_in inodes)
     there i Dir k h e = rw (k, h) refl
     there i (File bytes) k h e =
         rw (k, h, m.pairs.file (reverse path) i bytes (upward_at inodes tree m path ∙ h) e) refl
@@ -50,21 +50,21 @@ files_are_judged inodes tree m path =
 
 module _ (inodes : Inodes) (tree : Tree) (m : MeansTree inodes tree) where
   child_is : (dir : Path) (name : Name) (i : ℕ) → inode inodes tree m dir ≡ Some i
-      → lookup tree dir ≡ Some Dir → (o : Option Node) → lookup tree (dir ++ name ∷ []) ≡ o
+      → lookup tree dir ≡ Some Dir → (o : Option Object) → lookup tree (dir ++ name ∷ []) ≡ o
       → is_some o ≡ is_some (record_in (inodes i) name)
   child_is dir name i e d None h =
       sym (ap is_some
       (child_record inodes tree m dir name i e d ∙ no_link inodes tree m (dir ++ name ∷ []) h))
-  child_is dir name i e d (Some node) h =
-      let j = inode_at inodes tree m (dir ++ name ∷ []) node h in
+  child_is dir name i e d (Some object) h =
+      let j = inode_at inodes tree m (dir ++ name ∷ []) object h in
       sym (ap is_some
-      (child_record inodes tree m dir name i e d ∙ link_is inodes tree m (dir ++ name ∷ []) j.0 node j.1 h))
+      (child_record inodes tree m dir name i e d ∙ link_is inodes tree m (dir ++ name ∷ []) j.0 object j.1 h))
 
-  created : (node : Node) (dir : Path) (name : Name)
-      → create tree node (dir ++ name ∷ [])
+  created : (object : Object) (dir : Path) (name : Name)
+      → create tree object (dir ++ name ∷ [])
       ≡ and_then (judge_create inodes (length tree) dir name)
-      (λ _. Ok (answer.Done, insert tree (dir ++ name ∷ []) node))
-  created node dir name =
+      (λ _. Ok (answer.Done, insert tree (dir ++ name ∷ []) object))
+  created object dir name =
       ap (λ r. and_then r (λ _. made)) (walk_snoc inodes tree m dir name)
       ∙ by_cases inodes tree m
       (λ r.
@@ -76,7 +76,7 @@ module _ (inodes : Inodes) (tree : Tree) (m : MeansTree inodes tree) where
       there
     where
       done : Changed
-      done = Ok (answer.Done, insert tree (dir ++ name ∷ []) node)
+      done = Ok (answer.Done, insert tree (dir ++ name ∷ []) object)
 
       made : Changed
       made =
@@ -90,10 +90,10 @@ module _ (inodes : Inodes) (tree : Tree) (m : MeansTree inodes tree) where
           refuse_if (is_some (record_in (inodes at.0) name)) Exists
           (refuse_if (nat_lt path_limit (length tree)) TooBig (Ok at.0)))
 
-      there : (i : ℕ) (x : Node) → stop_from tree [] dir ≡ None → lookup tree dir ≡ Some x
+      there : (i : ℕ) (x : Object) → stop_from tree [] dir ≡ None → lookup tree dir ≡ Some x
           → inode inodes tree m dir ≡ Some i →
           and_then (ok_unless (option_or (stop_from tree [] dir) (stops_walk (lookup tree dir)))) (λ _. made)
-          ≡ and_then (and_then (Ok (i, node_kind x)) judged) (λ _. done)
+          ≡ and_then (and_then (Ok (i, object_kind x)) judged) (λ _. done)
       there i (File bytes) k h e = rw (k, h) refl
       there i Dir k h e =
           ap (λ s. and_then (ok_unless (option_or s (stops_walk (lookup tree dir)))) (λ _. made)) k
@@ -106,7 +106,7 @@ module _ (inodes : Inodes) (tree : Tree) (m : MeansTree inodes tree) where
           (refuse_both (nat_lt path_limit (length tree)) TooBig done (Ok i) (λ _. done) refl)
 
 pub creates_are_judged : CreatesAreJudged
-creates_are_judged inodes tree m node dir name = created inodes tree m node dir name
+creates_are_judged inodes tree m object dir name = created inodes tree m object dir name
 
 -- ---- directories
 
@@ -152,10 +152,10 @@ module _ (inodes : Inodes) (tree : Tree) (listing : Listing) (m : MeansTree inod
       at_dir : stop_from tree [] path ≡ None → lookup tree path ≡ Some Dir → dir_at tree path ≡ Ok tt
       at_dir k h = rw (k, h) refl
 
-      there : (i : ℕ) (x : Node) → stop_from tree [] path ≡ None → lookup tree path ≡ Some x
+      there : (i : ℕ) (x : Object) → stop_from tree [] path ≡ None → lookup tree path ≡ Some x
           → inode inodes tree m path ≡ Some i
           → and_then (dir_at tree path) (λ _. made)
-          ≡ and_then (and_then (Ok (i, node_kind x)) judged) (λ _. done)
+          ≡ and_then (and_then (Ok (i, object_kind x)) judged) (λ _. done)
       there i (File bytes) k h e = rw (k, h) refl
       there i Dir k h e =
           ap (λ r. and_then r (λ _. made)) (at_dir k h)
@@ -175,10 +175,10 @@ module _ (inodes : Inodes) (tree : Tree) (listing : Listing) (m : MeansTree inod
       (λ k h. rw (k, h) refl)
       there
     where
-      there : (i : ℕ) (x : Node) → stop_from tree [] path ≡ None → lookup tree path ≡ Some x
+      there : (i : ℕ) (x : Object) → stop_from tree [] path ≡ None → lookup tree path ≡ Some x
           → inode inodes tree m path ≡ Some i
           → list tree path
-          ≡ and_then (Ok (i, node_kind x)) (λ at. and_then (as_dir at) (λ _. Ok (map shown (listing at.0))))
+          ≡ and_then (Ok (i, object_kind x)) (λ at. and_then (as_dir at) (λ _. Ok (map shown (listing at.0))))
       there i (File bytes) k h e = rw (k, h) refl
       there i Dir k h e =
           rw (k, h) (ap (λ xs. Ok (map named xs)) (listed path i e h)
@@ -192,24 +192,24 @@ module _ (inodes : Inodes) (tree : Tree) (listing : Listing) (m : MeansTree inod
       (λ k h. rw (k, h) refl)
       there
     where
-      there : (i : ℕ) (x : Node) → stop_from tree [] path ≡ None → lookup tree path ≡ Some x
+      there : (i : ℕ) (x : Object) → stop_from tree [] path ≡ None → lookup tree path ≡ Some x
           → inode inodes tree m path ≡ Some i
-          → stat tree path ≡ and_then (Ok (i, node_kind x)) (λ at. Ok (stat_in inodes listing at))
+          → stat tree path ≡ and_then (Ok (i, object_kind x)) (λ at. Ok (stat_in inodes listing at))
       there i (File bytes) k h e =
           rw (k, h, m.pairs.file (reverse path) i bytes (upward_at inodes tree m path ∙ h) e) refl
       there i Dir k h e = rw (k, h) (ap (λ n. Ok (status.Dir n)) (counted path i e h))
 
   -- ---- a rename
 
-  taken : (x : Node) (to : Path) (o : Option Node) → lookup tree to ≡ o
-      → may_replace tree to x o ≡ may_take listing (node_kind x) (link_at inodes tree m to)
-  taken x to None h = ap (may_take listing (node_kind x)) (sym (no_link inodes tree m to h))
+  taken : (x : Object) (to : Path) (o : Option Object) → lookup tree to ≡ o
+      → may_replace tree to x o ≡ may_take listing (object_kind x) (link_at inodes tree m to)
+  taken x to None h = ap (may_take listing (object_kind x)) (sym (no_link inodes tree m to h))
   taken x to (Some y) h =
       let j = inode_at inodes tree m to y h in
-      by x y h j.0 j.1 ∙ ap (may_take listing (node_kind x)) (sym (link_is inodes tree m to j.0 y j.1 h))
+      by x y h j.0 j.1 ∙ ap (may_take listing (object_kind x)) (sym (link_is inodes tree m to j.0 y j.1 h))
     where
-      by : (x y : Node) → lookup tree to ≡ Some y → (i : ℕ) → inode inodes tree m to ≡ Some i
-          → may_replace tree to x (Some y) ≡ may_take listing (node_kind x) (Some (i, node_kind y))
+      by : (x y : Object) → lookup tree to ≡ Some y → (i : ℕ) → inode inodes tree m to ≡ Some i
+          → may_replace tree to x (Some y) ≡ may_take listing (object_kind x) (Some (i, object_kind y))
       by (File bytes) Dir h i e = refl
       by (File bytes) (File others) h i e = refl
       by Dir (File others) h i e = refl
@@ -222,7 +222,7 @@ module _ (inodes : Inodes) (tree : Tree) (listing : Listing) (m : MeansTree inod
     done : Bool → Changed
     done moves = Ok (answer.Done, cond moves (move_subtree tree from to) tree)
 
-    replaced : Node → Changed
+    replaced : Object → Changed
     replaced x =
         cond (same_path from to) (Ok (answer.Done, tree))
         (and_then (may_replace tree to x (lookup tree to))
@@ -246,20 +246,20 @@ module _ (inodes : Inodes) (tree : Tree) (listing : Listing) (m : MeansTree inod
     choice true r = refl
     choice false r = both_done r
 
-    placed_alike : (x : Node) (i : ℕ) → inode inodes tree m dir ≡ Some i → lookup tree dir ≡ Some Dir
-        → replaced x ≡ and_then (placed (node_kind x) (i, kind.Directory)) done
+    placed_alike : (x : Object) (i : ℕ) → inode inodes tree m dir ≡ Some i → lookup tree dir ≡ Some Dir
+        → replaced x ≡ and_then (placed (object_kind x) (i, kind.Directory)) done
     unfolding done replaced placed
     placed_alike x i e d =
         ap (λ r.
         cond (same_path from to) (Ok (answer.Done, tree))
         (and_then r (λ _. Ok (answer.Done, move_subtree tree from to))))
         (taken x to (lookup tree to) refl
-        ∙ ap (may_take listing (node_kind x)) (sym (child_record inodes tree m dir name i e d)))
-        ∙ choice (same_path from to) (may_take listing (node_kind x) (record_in (inodes i) name))
+        ∙ ap (may_take listing (object_kind x)) (sym (child_record inodes tree m dir name i e d)))
+        ∙ choice (same_path from to) (may_take listing (object_kind x) (record_in (inodes i) name))
 
-    into_alike : (x : Node)
+    into_alike : (x : Object)
         → and_then (walk tree to) (λ _. replaced x)
-        ≡ and_then (and_then (resolve inodes dir) (placed (node_kind x))) done
+        ≡ and_then (and_then (resolve inodes dir) (placed (object_kind x))) done
     unfolding placed
     into_alike x =
         ap (λ r. and_then r (λ _. replaced x)) (walk_snoc inodes tree m dir name)
@@ -267,24 +267,24 @@ module _ (inodes : Inodes) (tree : Tree) (listing : Listing) (m : MeansTree inod
         (λ r.
         and_then (ok_unless (option_or (stop_from tree [] dir) (stops_walk (lookup tree dir))))
         (λ _. replaced x)
-        ≡ and_then (and_then r (placed (node_kind x))) done)
+        ≡ and_then (and_then r (placed (object_kind x))) done)
         dir
         (λ y k. rw k refl)
         (λ k h. rw (k, h) refl)
         there
       where
-        there : (i : ℕ) (y : Node) → stop_from tree [] dir ≡ None → lookup tree dir ≡ Some y
+        there : (i : ℕ) (y : Object) → stop_from tree [] dir ≡ None → lookup tree dir ≡ Some y
             → inode inodes tree m dir ≡ Some i →
             and_then (ok_unless (option_or (stop_from tree [] dir) (stops_walk (lookup tree dir))))
             (λ _. replaced x)
-            ≡ and_then (and_then (Ok (i, node_kind y)) (placed (node_kind x))) done
+            ≡ and_then (and_then (Ok (i, object_kind y)) (placed (object_kind x))) done
         there i (File bytes) k h e = rw (k, h) refl
         there i Dir k h e =
             ap (λ s. and_then (ok_unless (option_or s (stops_walk (lookup tree dir)))) (λ _. replaced x)) k
             ∙ ap (λ o. and_then (ok_unless (stops_walk o)) (λ _. replaced x)) h
             ∙ placed_alike x i e h
 
-    moved : Node → Changed
+    moved : Object → Changed
     moved x = refuse_if (is_dir x && is_above from to) IntoItself (and_then (walk tree to) (λ _. replaced x))
 
     judged : Link → Result Bool VolError
@@ -292,26 +292,26 @@ module _ (inodes : Inodes) (tree : Tree) (listing : Listing) (m : MeansTree inod
         refuse_if (is_dir_kind at.1 && is_above from to) IntoItself
         (and_then (resolve inodes dir) (placed at.1))
 
-    same_kind : (x : Node) → is_dir x ≡ is_dir_kind (node_kind x)
+    same_kind : (x : Object) → is_dir x ≡ is_dir_kind (object_kind x)
     same_kind Dir = refl
     same_kind (File bytes) = refl
 
-    moved_alike : (x : Node) (i : ℕ) → moved x ≡ and_then (judged (i, node_kind x)) done
+    moved_alike : (x : Object) (i : ℕ) → moved x ≡ and_then (judged (i, object_kind x)) done
     unfolding moved judged
     moved_alike x i =
         ap (λ b. refuse_if (b && is_above from to) IntoItself (and_then (walk tree to) (λ _. replaced x)))
         (same_kind x)
-        ∙ refuse_both (is_dir_kind (node_kind x) && is_above from to) IntoItself
+        ∙ refuse_both (is_dir_kind (object_kind x) && is_above from to) IntoItself
         (and_then (walk tree to) (λ _. replaced x))
-        (and_then (resolve inodes dir) (placed (node_kind x))) done (into_alike x)
+        (and_then (resolve inodes dir) (placed (object_kind x))) done (into_alike x)
 
     moves_judged : rename tree from to ≡ and_then (judge_rename inodes listing from dir name) done
     unfolding moved judged replaced placed done
     moves_judged =
-        refuse_both (is_root from || is_root to) BadPath (and_then (node_at tree from) moved)
+        refuse_both (is_root from || is_root to) BadPath (and_then (object_at tree from) moved)
         (and_then (resolve inodes from) judged) done
         (by_cases inodes tree m
-        (λ r. and_then (node_at tree from) moved ≡ and_then (and_then r judged) done) from
+        (λ r. and_then (object_at tree from) moved ≡ and_then (and_then r judged) done) from
         (λ x k. rw k refl)
         (λ k h. rw (k, h) refl)
         (λ i x k h e. rw (k, h) (moved_alike x i)))

@@ -7,8 +7,8 @@ use Rattle.std.specs.FinMap.Entries.{is_sorted-put, is_sorted-where_key, same_en
 use Rattle.std.proofs.lemmas.List.{reverse-append, reverse-reverse}
 use Rattle.std.proofs.lemmas.Bool.{cases_Bool, eqb-true, eqb-false, eq-eqb, ne_eqb}
 use Rattle.std.proofs.Common.{sym, ◌∙◌, ap, subst, inl, inr, true≢false, T, append-nil}
-use Rattle.nl_types.specs.declared.reply.Node.{Node}
-use Rattle.nl_types.specs.declared.reply.Node.TheVariants.{Dir, File}
+use Rattle.nl_types.specs.declared.reply.Object.{Object}
+use Rattle.nl_types.specs.declared.reply.Object.TheVariants.{Dir, File}
 use Rattle.nl_types.specs.Plain.Paths.{Name, Path, path_cmp, same_path, same_name, is_within}
 use Rattle.nl_types.specs.Plain.Trees.{Tree, lookup, insert, remove, move_subtree, moved_path, in_order}
 use Rattle.nl_types.specs.Inodes.{Link, InodeContent, Bytes, Records, Inodes, MeansTree, upward, IsRooted, Pairs, record_of}
@@ -19,7 +19,7 @@ use Rattle.nl_types.specs.Facts.Lookups.{lookup-remove, lookup-move_subtree, sam
 use Rattle.nl_types.specs.Facts.Inodes.Ways.{path_cases, longer, put_at, put_at-there, put_at-other, below, moved, below-none, moved-to, moved-from, moved-elsewhere}
 use Rattle.nl_types.specs.Facts.Inodes.Walks.{found-pairs}
 use Rattle.nl_types.specs.Facts.Inodes.Recording.{clash, absent_below, record_cong}
-use Rattle.nl_types.specs.Facts.Inodes.Standing.{zipped, inode_there, node_there, dir_there, records_are, child_there, child_absent, nothing_below}
+use Rattle.nl_types.specs.Facts.Inodes.Standing.{zipped, inode_there, object_there, dir_there, records_are, child_there, child_absent, nothing_below}
 use Rattle.nl_types.specs.Facts.Inodes.Creating.{created_pairs, created_rooted}
 use Rattle.nl_types.specs.Facts.Inodes.Rewriting.{rewritten_pairs, rewritten_rooted}
 use Rattle.nl_types.specs.Facts.Inodes.Removing.{removed_pairs, removed_rooted}
@@ -31,7 +31,7 @@ same_functions : {A B : Type 0} (f g : A → B) → ((x : A) → f x ≡ g x) �
 same_functions f g h = λ i x. h x i
 
 -- a tree that is in order stands for inodes as its function does
-pub means_by : (inodes : Inodes) (tree : Tree) (g : Path → Option Node) (f : Path → Option ℕ)
+pub means_by : (inodes : Inodes) (tree : Tree) (g : Path → Option Object) (f : Path → Option ℕ)
     → T (is_sorted path_cmp tree) → ((p : Path) → g p ≡ upward tree p) → IsRooted g → Pairs inodes g f
     → MeansTree inodes tree
 means_by inodes tree g f sorted h t m =
@@ -40,7 +40,7 @@ means_by inodes tree g f sorted h t m =
       inode_of = f;
       ordered = is_true _ sorted;
       rooted = subst IsRooted same t;
-      pairs = subst (λ (x : Path → Option Node). Pairs inodes x f) same m;
+      pairs = subst (λ (x : Path → Option Object). Pairs inodes x f) same m;
     }
 
 pub walks_find : WalksFind
@@ -56,8 +56,8 @@ inodes_mean_one_tree inodes tree other m n =
 -- ---- one path
 
 -- what is put at a path, by a test for it
-put_by : (path p : Path) (x o : Option Node) (b : Bool) → (p ≡ path → b ≡ true) → (b ≡ true → p ≡ path)
-    → (tree : Path → Option Node) → o ≡ tree p → put_at path x tree p ≡ cond b x o
+put_by : (path p : Path) (x o : Option Object) (b : Bool) → (p ≡ path → b ≡ true) → (b ≡ true → p ≡ path)
+    → (tree : Path → Option Object) → o ≡ tree p → put_at path x tree p ≡ cond b x o
 unfolding put_at
 put_by path p x o b to from tree e = elim (path_cases p path) [
   | inl t ↦ rw (t.0) (rw (to t.1) refl)
@@ -71,14 +71,14 @@ put_by path p x o b to from tree e = elim (path_cases p path) [
 turned_equal : (p q : Path) → reverse p ≡ reverse q → p ≡ q
 turned_equal p q e = sym (reverse-reverse p) ∙ ap (λ (r : Path). reverse r) e ∙ reverse-reverse q
 
-inserted : (tree : Tree) (path : Path) (node : Node) (p : Path)
-    → put_at path (Some node) (upward tree) p ≡ upward (insert tree (reverse path) node) p
-inserted tree path node p =
-    put_by path p (Some node) (upward tree p) (same_path (reverse p) (reverse path))
+inserted : (tree : Tree) (path : Path) (object : Object) (p : Path)
+    → put_at path (Some object) (upward tree) p ≡ upward (insert tree (reverse path) object) p
+inserted tree path object p =
+    put_by path p (Some object) (upward tree p) (same_path (reverse p) (reverse path))
     (λ e. ap (λ (q : Path). same_path (reverse q) (reverse path)) e ∙ same_path-itself (reverse path))
     (λ e. turned_equal p path (same_path-equal (reverse p) (reverse path) e))
     (upward tree) refl
-    ∙ sym (lookup-insert tree (reverse path) node (reverse p))
+    ∙ sym (lookup-insert tree (reverse path) object (reverse p))
 
 taken_out : (tree : Tree) (path p : Path)
     → put_at path None (upward tree) p ≡ upward (remove tree (reverse path)) p
@@ -89,22 +89,22 @@ taken_out tree path p =
     (upward tree) refl
     ∙ sym (lookup-remove tree (reverse path) (reverse p))
 
-pub created : (old new : Inodes) (tree : Tree) (dir : Path) (name : Name) (node : Node) (inode : ℕ)
-    → MeansTree old tree → Creates old new dir name node inode
-    → MeansTree new (insert tree (reverse (name ∷ dir)) node)
-created old new tree dir name node inode m w =
+pub created : (old new : Inodes) (tree : Tree) (dir : Path) (name : Name) (object : Object) (inode : ℕ)
+    → MeansTree old tree → Creates old new dir name object inode
+    → MeansTree new (insert tree (reverse (name ∷ dir)) object)
+created old new tree dir name object inode m w =
     let t = m.rooted in
     let parent_is = inode_there t m.pairs dir w.parent.inode w.parent.is_reached in
     let in_dir = dir_there t m.pairs dir w.parent in
     let none = child_absent t m.pairs dir w.parent name w.absent in
     means_by new _ _ _
-    (is_sorted-put path_cmp path_total (reverse (name ∷ dir)) node tree (holds _ m.ordered))
-    (inserted tree (name ∷ dir) node)
+    (is_sorted-put path_cmp path_total (reverse (name ∷ dir)) object tree (holds _ m.ordered))
+    (inserted tree (name ∷ dir) object)
     (created_rooted old new
-    (upward tree) m.inode_of name dir node inode t m.pairs w.parent.inode parent_is in_dir none w.adds.free
+    (upward tree) m.inode_of name dir object inode t m.pairs w.parent.inode parent_is in_dir none w.adds.free
     w.adds.added w.adds.others)
     (created_pairs old new
-    (upward tree) m.inode_of name dir node inode t m.pairs w.parent.inode parent_is in_dir none w.adds.free
+    (upward tree) m.inode_of name dir object inode t m.pairs w.parent.inode parent_is in_dir none w.adds.free
     w.adds.added w.adds.others)
 
 pub rewritten : (old new : Inodes) (tree : Tree) (path : Path) (bytes : List ℕ) → MeansTree old tree
@@ -112,7 +112,7 @@ pub rewritten : (old new : Inodes) (tree : Tree) (path : Path) (bytes : List ℕ
 rewritten old new tree path bytes m w =
     let t = m.rooted in
     let inode_is = inode_there t m.pairs path w.inode w.is_reached in
-    let was = node_there t m.pairs path w.inode (Bytes w.held) w.is_reached w.was in
+    let was = object_there t m.pairs path w.inode (Bytes w.held) w.is_reached w.was in
     means_by new _ _ _
     (is_sorted-put path_cmp path_total (reverse path) (File bytes) tree (holds _ m.ordered))
     (inserted tree path (File bytes))
@@ -384,7 +384,7 @@ module _ (old new : Inodes) (tree : Tree) (fp : Path) (fn : Name) (tp : Path) (t
 
   m' : Pairs between (upward (remove tree to)) f'
   m' =
-      subst (λ (x : Path → Option Node). Pairs between x f') same_trees
+      subst (λ (x : Path → Option Object). Pairs between x f') same_trees
       (removed_pairs old between
       (upward tree) m.inode_of t m.pairs tn tp w.to.inode w.target.0 to_is target_is empty gone' others')
 

@@ -7,10 +7,10 @@ use Rattle.std.specs.Cmp.Lexicographic.{nat_list_cmp_total}
 use Rattle.std.specs.Option.{option_map, option_zip}
 use Rattle.std.proofs.Common.{sym, ◌∙◌, ap, subst, inl, inr, true≢false}
 use Rattle.std.proofs.lemmas.Bool.{eq-eqb, ne_eqb}
-use Rattle.nl_types.specs.declared.reply.Node.{Node}
-use Rattle.nl_types.specs.declared.reply.Node.TheVariants.{Dir}
+use Rattle.nl_types.specs.declared.reply.Object.{Object}
+use Rattle.nl_types.specs.declared.reply.Object.TheVariants.{Dir}
 use Rattle.nl_types.specs.Plain.Paths.{Name, Path, name_cmp, same_name}
-use Rattle.nl_types.specs.Plain.Trees.{node_kind}
+use Rattle.nl_types.specs.Plain.Trees.{object_kind}
 use Rattle.nl_types.specs.Inodes.{Link, InodeContent, Bytes, Records, IsRooted}
 use Rattle.nl_types.specs.InodeChanges.{HoldsChanged, put_record}
 use Rattle.nl_types.specs.Facts.Lookups.{names_equal, same_name-itself, same_name-equal}
@@ -47,17 +47,17 @@ put_record-name d n x i m old ne =
     elim (name_cases m n)
     [ inl t ↦ absurd (ne t.1) | inr f ↦ rw (and_false (i == d) (same_name m n) (f.0)) refl ]
 
-pub record_cong : (a b : Option ℕ) (x y : Option Node) → a ≡ b → x ≡ y
-    → option_zip a (option_map node_kind x) ≡ option_zip b (option_map node_kind y)
+pub record_cong : (a b : Option ℕ) (x y : Option Object) → a ≡ b → x ≡ y
+    → option_zip a (option_map object_kind x) ≡ option_zip b (option_map object_kind y)
 record_cong a b x y e k = rw (e, k) refl
 
-no_child : (tree : Path → Option Node) (t : IsRooted tree) (n : Name) (p : Path) (o : Option Node)
+no_child : (tree : Path → Option Object) (t : IsRooted tree) (n : Name) (p : Path) (o : Option Object)
     → tree (n ∷ p) ≡ o → tree p ≡ None → tree (n ∷ p) ≡ None
 no_child tree t n p None e z = e
 no_child tree t n p (Some x) e z = absurd (clash (tree p) Dir z (t.parents n p x e))
 
 -- nothing is below what isn't there
-pub absent_below : (tree : Path → Option Node) (t : IsRooted tree) (p r : Path) → tree p ≡ None
+pub absent_below : (tree : Path → Option Object) (t : IsRooted tree) (p r : Path) → tree p ≡ None
     → tree (r ++ p) ≡ None
 absent_below tree t p [] e = e
 absent_below tree t p (n ∷ r) e =

@@ -2,15 +2,15 @@
 use Rattle.std.specs.Prelude.{◌≡◌, ℕ, List, [], ◌∷◌, Option, Some, None, refl}
 use Rattle.std.specs.Option.{is_some}
 use Rattle.std.proofs.Common.{sym, ◌∙◌, ap, subst, inl, inr}
-use Rattle.nl_types.specs.declared.reply.Node.{Node}
-use Rattle.nl_types.specs.declared.reply.Node.TheVariants.{Dir, File}
+use Rattle.nl_types.specs.declared.reply.Object.{Object}
+use Rattle.nl_types.specs.declared.reply.Object.TheVariants.{Dir, File}
 use Rattle.nl_types.specs.Plain.Paths.{Name, Path}
 use Rattle.nl_types.specs.Inodes.{Link, InodeContent, Bytes, Records, Inodes, IsRooted, Pairs, record_of}
 use Rattle.nl_types.specs.InodeChanges.{HoldsChanged, put_record}
 use Rattle.nl_types.specs.Facts.Inodes.Ways.{path_cases, name_cases, put_at, put_at-there, put_at-other}
 use Rattle.nl_types.specs.Facts.Inodes.Recording.{clash, same_value, same_child, put_record-there, put_record-dir, put_record-name, record_cong}
 
-module _ (inodes inodes' : Inodes) (tree : Path → Option Node) (f : Path → Option ℕ) (t : IsRooted tree)
+module _ (inodes inodes' : Inodes) (tree : Path → Option Object) (f : Path → Option ℕ) (t : IsRooted tree)
     (m : Pairs inodes tree f)
     (name : Name) (dir : Path) (parent j : ℕ) (parent_is : f dir ≡ Some parent)
     (inode_is : f (name ∷ dir) ≡ Some j)
@@ -20,7 +20,7 @@ module _ (inodes inodes' : Inodes) (tree : Path → Option Node) (f : Path → O
   abbrev f' : Path → Option ℕ
   f' = put_at (name ∷ dir) None f
 
-  abbrev tree' : Path → Option Node
+  abbrev tree' : Path → Option Object
   tree' = put_at (name ∷ dir) None tree
 
   -- what is still there was there

@@ -4,8 +4,8 @@ use Rattle.std.specs.Prelude.{◌≡◌, ◌⊎◌, ℕ, List, [], ◌∷◌, �
 use Rattle.std.specs.Option.{is_some, option_map}
 use Rattle.std.proofs.Common.{sym, ◌∙◌, ap, subst, inl, inr, arith, length-append}
 use Rattle.std.proofs.lemmas.List.{append_cancel_right}
-use Rattle.nl_types.specs.declared.reply.Node.{Node}
-use Rattle.nl_types.specs.declared.reply.Node.TheVariants.{Dir, File}
+use Rattle.nl_types.specs.declared.reply.Object.{Object}
+use Rattle.nl_types.specs.declared.reply.Object.TheVariants.{Dir, File}
 use Rattle.nl_types.specs.Plain.Paths.{Name, Path}
 use Rattle.nl_types.specs.Inodes.{Link, InodeContent, Bytes, Records, Inodes, IsRooted, Pairs, record_of}
 use Rattle.nl_types.specs.InodeChanges.{HoldsChanged, put_record, move_record}
@@ -36,7 +36,7 @@ by_ways from to P under over else q = choose (below to q) (below from q) refl re
         subst P (sym here) (over r (subst (λ x. below to x ≡ None) here e))
     choose None None e k = else q e k
 
-module _ (inodes inodes' : Inodes) (tree : Path → Option Node) (f : Path → Option ℕ) (fn : Name) (fp : Path)
+module _ (inodes inodes' : Inodes) (tree : Path → Option Object) (f : Path → Option ℕ) (fn : Name) (fp : Path)
     (tn : Name) (tp : Path)
     (t : IsRooted tree) (m : Pairs inodes tree f) (from_inode to_inode : ℕ) (from_is : f fp ≡ Some from_inode)
     (to_is : f tp ≡ Some to_inode)
@@ -48,7 +48,7 @@ module _ (inodes inodes' : Inodes) (tree : Path → Option Node) (f : Path → O
   abbrev pub f' : Path → Option ℕ
   f' = moved (fn ∷ fp) (tn ∷ tp) f
 
-  abbrev pub tree' : Path → Option Node
+  abbrev pub tree' : Path → Option Object
   tree' = moved (fn ∷ fp) (tn ∷ tp) tree
 
   abbrev change : ℕ → Name → Option Link → Option Link
@@ -206,7 +206,7 @@ module _ (inodes inodes' : Inodes) (tree : Path → Option Node) (f : Path → O
   nothing q e = absent (tree q) (sym (m.paths q) ∙ ap (λ (o : Option ℕ). is_some o) e)
 
   absent_f : (q : Path) → tree q ≡ None → f q ≡ None
-  absent_f q e = absent (f q) (m.paths q ∙ ap (λ (o : Option Node). is_some o) e)
+  absent_f q e = absent (f q) (m.paths q ∙ ap (λ (o : Option Object). is_some o) e)
 
   -- where an inode goes
   abbrev Target : Path → Type 0
@@ -251,7 +251,7 @@ module _ (inodes inodes' : Inodes) (tree : Path → Option Node) (f : Path → O
   }
 
   abbrev HasParent : Path → Type 0
-  HasParent q = (n : Name) (p : Path) (x : Node) → q ≡ n ∷ p → tree' q ≡ Some x → tree' p ≡ Some Dir
+  HasParent q = (n : Name) (p : Path) (x : Object) → q ≡ n ∷ p → tree' q ≡ Some x → tree' p ≡ Some Dir
 
   parent_of_to : (p : Path) → p ≡ tp → tree' p ≡ Some Dir
   parent_of_to p e = ap tree' e ∙ (moved-elsewhere (fn ∷ fp) (tn ∷ tp) tree tp

@@ -3,35 +3,35 @@ use Rattle.std.specs.Prelude.{◌≡◌, ℕ, Bool, true, false, List, [], ◌�
 use Rattle.std.specs.Option.{is_some, option_map, option_zip}
 use Rattle.std.proofs.Common.{sym, ◌∙◌, ap, inl, inr, eqb}
 use Rattle.std.proofs.lemmas.Bool.{eqb-true, eqb-false}
-use Rattle.nl_types.specs.declared.reply.Node.{Node}
-use Rattle.nl_types.specs.declared.reply.Node.TheVariants.{Dir, File}
+use Rattle.nl_types.specs.declared.reply.Object.{Object}
+use Rattle.nl_types.specs.declared.reply.Object.TheVariants.{Dir, File}
 use Rattle.nl_types.specs.Plain.Paths.{Path}
-use Rattle.nl_types.specs.Plain.Trees.{node_kind}
+use Rattle.nl_types.specs.Plain.Trees.{object_kind}
 use Rattle.nl_types.specs.Inodes.{InodeContent, Bytes, Inodes, IsRooted, Pairs}
 use Rattle.nl_types.specs.Facts.Inodes.Ways.{path_cases, put_at, put_at-there, put_at-other}
 use Rattle.nl_types.specs.Facts.Inodes.Recording.{same_value}
 
-module _ (inodes inodes' : Inodes) (tree : Path → Option Node) (f : Path → Option ℕ) (path : Path)
+module _ (inodes inodes' : Inodes) (tree : Path → Option Object) (f : Path → Option ℕ) (path : Path)
     (new : List ℕ)
     (t : IsRooted tree) (m : Pairs inodes tree f) (inode : ℕ) (inode_is : f path ≡ Some inode) (old : List ℕ)
     (was : tree path ≡ Some (File old))
     (holds : inodes' inode ≡ Some (Bytes new))
     (others : (i : ℕ) → (i ≡ inode → ⊥) → inodes' i ≡ inodes i) where
-  abbrev pub tree' : Path → Option Node
+  abbrev pub tree' : Path → Option Object
   tree' = put_at path (Some (File new)) tree
 
   there : tree' path ≡ Some (File new)
   there = put_at-there path (Some (File new)) tree
 
-  kinds : (p : Path) → option_map node_kind (tree' p) ≡ option_map node_kind (tree p)
+  kinds : (p : Path) → option_map object_kind (tree' p) ≡ option_map object_kind (tree p)
   kinds p = elim (path_cases p path) [
     | inl y ↦
-        ap (λ q. option_map node_kind (tree' q)) y.1 ∙ ap (option_map node_kind) there
-        ∙ sym (ap (λ q. option_map node_kind (tree q)) y.1 ∙ ap (option_map node_kind) was)
-    | inr x ↦ ap (option_map node_kind) (put_at-other path (Some (File new)) tree p x.1)
+        ap (λ q. option_map object_kind (tree' q)) y.1 ∙ ap (option_map object_kind) there
+        ∙ sym (ap (λ q. option_map object_kind (tree q)) y.1 ∙ ap (option_map object_kind) was)
+    | inr x ↦ ap (option_map object_kind) (put_at-other path (Some (File new)) tree p x.1)
   ]
 
-  mapped : (o : Option Node) → is_some (option_map node_kind o) ≡ is_some o
+  mapped : (o : Option Object) → is_some (option_map object_kind o) ≡ is_some o
   mapped None = refl
   mapped (Some x) = refl
 
@@ -51,7 +51,7 @@ module _ (inodes inodes' : Inodes) (tree : Path → Option Node) (f : Path → O
   apart : (p : Path) (i : ℕ) → (p ≡ path → ⊥) → f p ≡ Some i → i ≡ inode → ⊥
   apart p i ne e k = ne (m.once p path i e (inode_is ∙ ap (λ (j : ℕ). Some j) (sym k)))
 
-  was_there : (q : Path) (x : Node) → tree' q ≡ Some x → (y : Node) × (tree q ≡ Some y)
+  was_there : (q : Path) (x : Object) → tree' q ≡ Some x → (y : Object) × (tree q ≡ Some y)
   was_there q x e = elim (path_cases q path) [
     | inl y ↦ (File old, ap tree y.1 ∙ was)
     | inr z ↦ (x, sym (put_at-other path (Some (File new)) tree q z.1) ∙ e)

@@ -6,8 +6,8 @@ use Rattle.std.proofs.lemmas.List.{length-append, reverse-append}
 use Rattle.std.proofs.lemmas.Bool.{eqb-true, eqb-false}
 use Rattle.nl_types.specs.declared.error.VolError.{VolError}
 use Rattle.nl_types.specs.declared.error.VolError.TheVariants.{Exists, BadPath}
-use Rattle.nl_types.specs.declared.reply.Node.{Node}
-use Rattle.nl_types.specs.declared.reply.Node.TheVariants.{Dir, File}
+use Rattle.nl_types.specs.declared.reply.Object.{Object}
+use Rattle.nl_types.specs.declared.reply.Object.TheVariants.{Dir, File}
 use Rattle.nl_types.specs.Plain.Paths.{Name, Path, same_path}
 use Rattle.nl_types.specs.Plain.Trees.{root_alone, lookup}
 use Rattle.nl_types.specs.Plain.Calls.{refuse_if, is_root}
@@ -54,7 +54,7 @@ new_inodes_mean_the_root inodes records holds none others = record {
   };
 }
   where
-    below : (n : Name) (p : Path) (x : Node) → upward root_alone (n ∷ p) ≡ Some x
+    below : (n : Name) (p : Path) (x : Object) → upward root_alone (n ∷ p) ≡ Some x
         → upward root_alone p ≡ Some Dir
     below n p x is = absurd (clash (upward root_alone (n ∷ p)) x (nothing n p) is)
 
@@ -92,7 +92,7 @@ refused true e next is = refl
 refused false e next is = cc
 
 pub root_is_there : RootIsThere
-root_is_there tree t node = refused (is_some (lookup tree [])) Exists _ (ap is_some t.root)
+root_is_there tree t object = refused (is_some (lookup tree [])) Exists _ (ap is_some t.root)
 
 pub root_stays : RootStays
 root_stays tree from = refused (is_root from || true) BadPath _ (or_true (is_root from))

@@ -2,39 +2,39 @@
 use Rattle.std.specs.Prelude.{◌≡◌, ℕ, ◌∷◌, Option, Some, None, refl}
 use Rattle.std.specs.Option.{is_some, option_map, option_and_then, option_zip}
 use Rattle.std.proofs.Common.{sym, ◌∙◌, ap}
-use Rattle.nl_types.specs.declared.reply.Node.{Node}
-use Rattle.nl_types.specs.declared.reply.Node.TheVariants.{Dir}
+use Rattle.nl_types.specs.declared.reply.Object.{Object}
+use Rattle.nl_types.specs.declared.reply.Object.TheVariants.{Dir}
 use Rattle.nl_types.specs.Plain.Paths.{Name, Path}
-use Rattle.nl_types.specs.Plain.Trees.{node_kind}
-use Rattle.nl_types.specs.Inodes.{Link, InodeContent, Bytes, Records, Inodes, IsRooted, Pairs, record_of, reached, node_of, inode_named}
+use Rattle.nl_types.specs.Plain.Trees.{object_kind}
+use Rattle.nl_types.specs.Inodes.{Link, InodeContent, Bytes, Records, Inodes, IsRooted, Pairs, record_of, reached, object_of, inode_named}
 use Rattle.nl_types.specs.InodeChanges.{HasRecords, IsBare}
 use Rattle.nl_types.specs.Facts.Inodes.Walks.{reached-pairs, found-pairs}
 use Rattle.nl_types.specs.Facts.Inodes.Recording.{same_value}
 
 -- ---- what an inode holds stands at its path
 
--- what has a record has an inode and a node
-pub zipped : (a : Option ℕ) (x : Option Node) (e : Link) → option_zip a (option_map node_kind x) ≡ Some e
-    → (a ≡ Some e.0) × (y : Node) × (x ≡ Some y) × (node_kind y ≡ e.1)
+-- what has a record has an inode and an object
+pub zipped : (a : Option ℕ) (x : Option Object) (e : Link) → option_zip a (option_map object_kind x) ≡ Some e
+    → (a ≡ Some e.0) × (y : Object) × (x ≡ Some y) × (object_kind y ≡ e.1)
 zipped None x e k = cc
 zipped (Some a) None e k = cc
 zipped (Some a) (Some y) e k =
-    let pair : (a, node_kind y) ≡ e = cc in
+    let pair : (a, object_kind y) ≡ e = cc in
     (ap (λ (p : Link). Some p.0) pair, y, refl, ap (λ (p : Link). p.1) pair)
 
-module _ {inodes : Inodes} {tree : Path → Option Node} {f : Path → Option ℕ} (t : IsRooted tree)
+module _ {inodes : Inodes} {tree : Path → Option Object} {f : Path → Option ℕ} (t : IsRooted tree)
     (m : Pairs inodes tree f) where
   pub inode_there : (p : Path) (i : ℕ) → reached inodes p ≡ Some i → f p ≡ Some i
   inode_there p i e = sym (reached-pairs t m p) ∙ e
 
-  pub node_there : (p : Path) (i : ℕ) (c : InodeContent) → reached inodes p ≡ Some i → inodes i ≡ Some c
-      → tree p ≡ Some (node_of c)
-  node_there p i c e k =
-      sym (found-pairs t m p) ∙ ap (λ (o : Option ℕ). option_map node_of (option_and_then inodes o)) e
-      ∙ ap (option_map node_of) k
+  pub object_there : (p : Path) (i : ℕ) (c : InodeContent) → reached inodes p ≡ Some i → inodes i ≡ Some c
+      → tree p ≡ Some (object_of c)
+  object_there p i c e k =
+      sym (found-pairs t m p) ∙ ap (λ (o : Option ℕ). option_map object_of (option_and_then inodes o)) e
+      ∙ ap (option_map object_of) k
 
   pub dir_there : (p : Path) (h : HasRecords inodes p) → tree p ≡ Some Dir
-  dir_there p h = node_there p h.inode (Records h.records) h.is_reached h.holds
+  dir_there p h = object_there p h.inode (Records h.records) h.is_reached h.holds
 
   pub records_are : (p : Path) (h : HasRecords inodes p) (n : Name) → h.records n ≡ record_of tree f (n ∷ p)
   records_are p h n =
@@ -45,11 +45,11 @@ module _ {inodes : Inodes} {tree : Path → Option Node} {f : Path → Option �
       ap (λ (r : Name → Option Link). r n) same ∙ d.2 n
 
   pub child_there : (p : Path) (h : HasRecords inodes p) (n : Name) (e : Link) → h.records n ≡ Some e
-      → (f (n ∷ p) ≡ Some e.0) × (y : Node) × (tree (n ∷ p) ≡ Some y) × (node_kind y ≡ e.1)
+      → (f (n ∷ p) ≡ Some e.0) × (y : Object) × (tree (n ∷ p) ≡ Some y) × (object_kind y ≡ e.1)
   child_there p h n e k = zipped (f (n ∷ p)) (tree (n ∷ p)) e (sym (records_are p h n) ∙ k)
 
-  not_zipped : (a : Option ℕ) (x : Option Node) → is_some a ≡ is_some x
-      → option_zip a (option_map node_kind x) ≡ None → x ≡ None
+  not_zipped : (a : Option ℕ) (x : Option Object) → is_some a ≡ is_some x
+      → option_zip a (option_map object_kind x) ≡ None → x ≡ None
   not_zipped a None e k = refl
   not_zipped None (Some y) e k = cc
   not_zipped (Some a) (Some y) e k = cc
@@ -72,4 +72,4 @@ module _ {inodes : Inodes} {tree : Path → Option Node} {f : Path → Option �
       (λ (o : Option ℕ). option_and_then (λ (x : InodeContent). inode_named n x) (option_and_then inodes o))
       (reached-pairs t m p ∙ e)
       ∙ ap (option_and_then (λ (x : InodeContent). inode_named n x)) k ∙ not_named n c bare in
-      sym (found-pairs t m (n ∷ p)) ∙ ap (λ (o : Option ℕ). option_map node_of (option_and_then inodes o)) at
+      sym (found-pairs t m (n ∷ p)) ∙ ap (λ (o : Option ℕ). option_map object_of (option_and_then inodes o)) at

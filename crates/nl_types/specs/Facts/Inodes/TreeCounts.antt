@@ -8,7 +8,7 @@ use Rattle.std.specs.declared.cmp.Ordering.TheVariants.{Less, Equal, Greater}
 use Rattle.std.specs.FinMap.{find, is_sorted}
 use Rattle.std.specs.FinMap.Entries.{below_all, length-put, length_without}
 use Rattle.std.proofs.Common.{sym, ◌∙◌, ap, T, arith, suc}
-use Rattle.nl_types.specs.declared.reply.Node.{Node}
+use Rattle.nl_types.specs.declared.reply.Object.{Object}
 use Rattle.nl_types.specs.Plain.Paths.{Path, path_cmp, same_path, is_within}
 use Rattle.nl_types.specs.Plain.Trees.{Tree, lookup, insert, remove, move_subtree, moved_path, in_order}
 use Rattle.nl_types.specs.Facts.TreeLaws.{path_total}
@@ -17,25 +17,25 @@ use Rattle.nl_types.specs.Facts.Subtrees.{in_order-sorted}
 use Rattle.nl_types.specs.Facts.Booleans.{not_true, first, second}
 
 -- a new path is one more
-pub length-insert_new : (tree : Tree) (path : Path) (node : Node) → T (is_sorted path_cmp tree)
-    → lookup tree path ≡ None → length (insert tree path node) ≡ length tree + 1
-length-insert_new tree path node h none =
-    length-put path_cmp path_total path node tree h
-    ∙ ap (λ (o : Option Node). cond (is_some o) (length tree) (length tree + 1)) none
+pub length-insert_new : (tree : Tree) (path : Path) (object : Object) → T (is_sorted path_cmp tree)
+    → lookup tree path ≡ None → length (insert tree path object) ≡ length tree + 1
+length-insert_new tree path object h none =
+    length-put path_cmp path_total path object tree h
+    ∙ ap (λ (o : Option Object). cond (is_some o) (length tree) (length tree + 1)) none
 
--- another node at a path is none more
-pub length-insert_old : (tree : Tree) (path : Path) (node old : Node) → T (is_sorted path_cmp tree)
-    → lookup tree path ≡ Some old → length (insert tree path node) ≡ length tree
-length-insert_old tree path node old h some =
-    length-put path_cmp path_total path node tree h
-    ∙ ap (λ (o : Option Node). cond (is_some o) (length tree) (length tree + 1)) some
+-- another object at a path is none more
+pub length-insert_old : (tree : Tree) (path : Path) (object old : Object) → T (is_sorted path_cmp tree)
+    → lookup tree path ≡ Some old → length (insert tree path object) ≡ length tree
+length-insert_old tree path object old h some =
+    length-put path_cmp path_total path object tree h
+    ∙ ap (λ (o : Option Object). cond (is_some o) (length tree) (length tree + 1)) some
 
 -- a path that is taken out is one less
-pub length-remove : (tree : Tree) (path : Path) (old : Node) → T (is_sorted path_cmp tree)
+pub length-remove : (tree : Tree) (path : Path) (old : Object) → T (is_sorted path_cmp tree)
     → lookup tree path ≡ Some old → length (remove tree path) + 1 ≡ length tree
 length-remove tree path old h some =
     let count : 1 + length (remove tree path) ≡ length tree =
-    sym (ap (λ (o : Option Node). cond {A = ℕ} (is_some o) 1 0 + length (remove tree path)) some)
+    sym (ap (λ (o : Option Object). cond {A = ℕ} (is_some o) 1 0 + length (remove tree path)) some)
     ∙ length_without path_cmp path_total path tree h in
     omega (arith, count)
 
@@ -50,7 +50,7 @@ find_below q (e ∷ tree) h =
     ap (λ r. cond (is_eq r) (Some e.1) (lookup tree q)) (less _ (first _ _ h))
     ∙ find_below q tree (second _ _ h)
 
-later_none : (b : Bool) (x : Node) (o : Option Node) → cond b (Some x) o ≡ None → o ≡ None
+later_none : (b : Bool) (x : Object) (o : Option Object) → cond b (Some x) o ≡ None → o ≡ None
 later_none true x o e = cc
 later_none false x o e = e
 
@@ -59,7 +59,7 @@ one_more a b e = omega (arith, e)
 
 module _ (from to : Path) (up : is_within from to ≡ false) (down : is_within to from ≡ false) where
   -- the path that an link moves to is not that of a later one
-  apart : (e : Path × Node) (tree : Tree) → is_within to e.0 ≡ false → lookup tree e.0 ≡ None
+  apart : (e : Path × Object) (tree : Tree) → is_within to e.0 ≡ false → lookup tree e.0 ≡ None
       → find path_cmp (moved_path from to e.0) (moved_entries from to tree) ≡ None
   apart e tree out none =
       elim (is_within from e.0) as (λ b.
@@ -97,7 +97,7 @@ module _ (from to : Path) (up : is_within from to ≡ false) (down : is_within t
       out
       ∙ length-put path_cmp path_total (moved_path from to e.0) e.1 (kept tree)
       (in_order-sorted (moved_entries from to tree))
-      ∙ ap (λ (o : Option Node). cond (is_some o) (length (kept tree)) (length (kept tree) + 1))
+      ∙ ap (λ (o : Option Object). cond (is_some o) (length (kept tree)) (length (kept tree) + 1))
       (lookup-in_order (moved_entries from to tree) (moved_path from to e.0) ∙ none)
       ∙ one_more (length (kept tree)) (length tree)
       (length-move_subtree tree (second _ _ h)

@@ -2,12 +2,12 @@
 use Rattle.std.specs.Prelude.{◌≡◌, ℕ, true, false, [], ◌∷◌, Option, Some, None, refl}
 use Rattle.std.specs.Option.{is_some, option_map, option_and_then, option_zip}
 use Rattle.std.proofs.Common.{sym, ◌∙◌, ap}
-use Rattle.nl_types.specs.declared.reply.Node.{Node}
-use Rattle.nl_types.specs.declared.reply.Node.TheVariants.{Dir, File}
+use Rattle.nl_types.specs.declared.reply.Object.{Object}
+use Rattle.nl_types.specs.declared.reply.Object.TheVariants.{Dir, File}
 use Rattle.nl_types.specs.declared.kind.Kind.{Kind}
 use Rattle.nl_types.specs.Plain.Paths.{Name, Path}
-use Rattle.nl_types.specs.Plain.Trees.{node_kind}
-use Rattle.nl_types.specs.Inodes.{InodeContent, IsRooted, Pairs, inode_named, reached, node_of, found_node}
+use Rattle.nl_types.specs.Plain.Trees.{object_kind}
+use Rattle.nl_types.specs.Inodes.{InodeContent, IsRooted, Pairs, inode_named, reached, object_of, found_object}
 
 pub absent : {A : Type 0} (o : Option A) → is_some o ≡ false → o ≡ None
 absent None h = refl
@@ -24,32 +24,32 @@ zip_first None b h = refl
 zip_first (Some x) None h = cc
 zip_first (Some x) (Some y) h = refl
 
-kinds_there : (o : Option Node) → is_some (option_map node_kind o) ≡ is_some o
+kinds_there : (o : Option Object) → is_some (option_map object_kind o) ≡ is_some o
 kinds_there None = refl
 kinds_there (Some x) = refl
 
-module _ {inodes : ℕ → Option InodeContent} {tree : Path → Option Node} {inode_of : Path → Option ℕ}
+module _ {inodes : ℕ → Option InodeContent} {tree : Path → Option Object} {inode_of : Path → Option ℕ}
     (t : IsRooted tree) (m : Pairs inodes tree inode_of) where
   childless : (n : Name) (p : Path) → (tree p ≡ Some Dir → ⊥) → inode_of (n ∷ p) ≡ None
   childless n p h =
       absent (inode_of (n ∷ p)) (m.paths (n ∷ p) ∙ nothing (tree (n ∷ p)) (λ x e. h (t.parents n p x e)))
     where
-      nothing : (o : Option Node) → ((x : Node) → o ≡ Some x → ⊥) → is_some o ≡ false
+      nothing : (o : Option Object) → ((x : Object) → o ≡ Some x → ⊥) → is_some o ≡ false
       nothing None k = refl
       nothing (Some x) k = absurd (k x refl)
 
-  step : (n : Name) (p : Path) (i : ℕ) (x : Node) → tree p ≡ Some x → inode_of p ≡ Some i →
+  step : (n : Name) (p : Path) (i : ℕ) (x : Object) → tree p ≡ Some x → inode_of p ≡ Some i →
       option_and_then (λ c. inode_named n c) (inodes i) ≡ inode_of (n ∷ p)
   step n p i Dir e f =
       let d = m.directory p i e f in
       rw (d.1) (ap (λ (o : Option (ℕ × Kind)). option_map (λ (r : ℕ × Kind). r.0) o) (d.2 n)
-      ∙ zip_first (inode_of (n ∷ p)) (option_map node_kind (tree (n ∷ p)))
+      ∙ zip_first (inode_of (n ∷ p)) (option_map object_kind (tree (n ∷ p)))
       (m.paths (n ∷ p) ∙ sym (kinds_there (tree (n ∷ p)))))
   step n p i (File bytes) e f =
       rw (m.file p i bytes e f)
       (sym (childless n p (λ d. let k : Some Dir ≡ Some (File bytes) = sym d ∙ e in cc)))
 
-  from_parent : (n : Name) (p : Path) (o : Option ℕ) (x : Option Node) → inode_of p ≡ o → tree p ≡ x
+  from_parent : (n : Name) (p : Path) (o : Option ℕ) (x : Option Object) → inode_of p ≡ o → tree p ≡ x
       → is_some o ≡ is_some x →
       option_and_then (λ c. inode_named n c) (option_and_then inodes o) ≡ inode_of (n ∷ p)
   from_parent n p None None f e h = sym (childless n p (λ d. let k : None ≡ Some Dir = sym e ∙ d in cc))
@@ -63,8 +63,8 @@ module _ {inodes : ℕ → Option InodeContent} {tree : Path → Option Node} {i
   reached-pairs [] = sym m.root
   reached-pairs (n ∷ p) = rw (reached-pairs p) (from_parent n p (inode_of p) (tree p) refl refl (m.paths p))
 
-  holds : (p : Path) (o : Option ℕ) (x : Option Node) → inode_of p ≡ o → tree p ≡ x → is_some o ≡ is_some x →
-      option_map node_of (option_and_then inodes o) ≡ x
+  holds : (p : Path) (o : Option ℕ) (x : Option Object) → inode_of p ≡ o → tree p ≡ x → is_some o ≡ is_some x →
+      option_map object_of (option_and_then inodes o) ≡ x
   holds p None None f e h = refl
   holds p None (Some x) f e h = cc
   holds p (Some i) None f e h = cc
@@ -72,5 +72,5 @@ module _ {inodes : ℕ → Option InodeContent} {tree : Path → Option Node} {i
   holds p (Some i) (Some (File bytes)) f e h = rw (m.file p i bytes e f) refl
 
   -- and so what the tree has there
-  pub found-pairs : (p : Path) → found_node inodes p ≡ tree p
+  pub found-pairs : (p : Path) → found_object inodes p ≡ tree p
   found-pairs p = rw (reached-pairs p) (holds p (inode_of p) (tree p) refl refl (m.paths p))

@@ -13,11 +13,11 @@ use Rattle.nl_mounts.proofs.files.FileAt.read_into.Goals as goal
 pub read_in-result-requires : goal.read_in-result-requires
 read_in-result-requires g c =
     let m = c.self.inside.mount.now in let old = c.args.port.now.known in let look = c.in-Ok.look in
-    subst (λ (f : FileView). HoldsAsTold f.mount (pages_shown c.image.result.now.tables) c.tree.result)
+    subst (λ (f : FileView). HoldsAsTold f.mount (pages_shown c.state.result.now.tables) c.tree.result)
     c.self.view_is
-    (holds_as_told m old look.front c.image.result.now.tables c.tree.result c.told.ensures.claim
+    (holds_as_told m old look.front c.state.result.now.tables c.tree.result c.told.ensures.claim
     (subst (λ (k : Known). IsBegun k.commits) c.told.ensures.told c.volume.ensures.begun)
-    (found_in m old look.front look.shown c.image.result.now.tables look.tree c.tree.result c.image.ensures
+    (found_in m old look.front look.shown c.state.result.now.tables look.tree c.tree.result c.state.ensures
     c.tree.ensures c.in-Ok.ensures.finds))
 
 pub come_back-requires : goal.come_back-requires
@@ -49,7 +49,7 @@ pub returns-in-Ok : goal.returns-in-Ok
 returns-in-Ok g c =
     let old = c.args.port.now in let look = c.in-Ok.look in
     let m = c.args.self.now.mount in
-    let image = c.image.result.now.tables in let tree = c.tree.result in
+    let state = c.state.result.now.tables in let tree = c.tree.result in
     let read = c.read_in-result in
     let finds = subst (λ (f : FileView). Finds f.mount old.known look.front look.shown look.tree) c.self.view_is
     c.in-Ok.ensures.finds in
@@ -57,22 +57,22 @@ returns-in-Ok g c =
     back_at old c.look.new.self c.come_back.new.self look.front c.in-Ok.ensures.seated c.in-Ok.ensures.out
     c.come_back.ensures in
     let all =
-    comes m old.known c.come_back.new.self.known look image tree
+    comes m old.known c.come_back.new.self.known look state tree
     (IsUngiven g.E.Enters.gives old.known old.seated) _ _ finds
-    back.known c.image.ensures c.tree.ensures read.ensures.reads in
+    back.known c.state.ensures c.tree.ensures read.ensures.reads in
     record {
       later = all.later;
       looked = all.looked;
       told = all.told;
       refused =
-          part_lacks m old.known c.come_back.new.self.known look.front image tree
+          part_lacks m old.known c.come_back.new.self.known look.front state tree
           (λ k. IsUngiven g.E.Enters.gives k old.seated) read.result
-          (found_in m old.known look.front look.shown image look.tree tree c.image.ensures c.tree.ensures finds)
+          (found_in m old.known look.front look.shown state look.tree tree c.state.ensures c.tree.ensures finds)
           back.known read.ensures.refused
-          (bad_if (pages_shown image) tree read.result c.args.into.now read.new.into _ read.ensures.reads
+          (bad_if (pages_shown state) tree read.result c.args.into.now read.new.into _ read.ensures.reads
           read.ensures.refused);
       same =
-          same_if (pages_shown image) tree read.result c.args.into.now read.new.into _ read.ensures.reads
+          same_if (pages_shown state) tree read.result c.args.into.now read.new.into _ read.ensures.reads
           read.ensures.refused;
       within = read.ensures.within;
       end = read.ensures.end;

@@ -14,11 +14,11 @@ take_in-result-requires g c =
     let m = c.self.inside.mount.now in let old = c.args.port.now.known in let look = c.in-Ok.look in
     record {
       holds =
-          subst (λ (f : FileView). HoldsAsTold f.mount (pages_shown c.image.result.now.tables) c.tree.result)
+          subst (λ (f : FileView). HoldsAsTold f.mount (pages_shown c.state.result.now.tables) c.tree.result)
           c.self.view_is
-          (holds_as_told m old look.front c.image.result.now.tables c.tree.result c.told.ensures.claim
+          (holds_as_told m old look.front c.state.result.now.tables c.tree.result c.told.ensures.claim
           (subst (λ (k : Known). IsBegun k.commits) c.told.ensures.told c.volume.ensures.begun)
-          (found_in m old look.front look.shown c.image.result.now.tables look.tree c.tree.result c.image.ensures
+          (found_in m old look.front look.shown c.state.result.now.tables look.tree c.tree.result c.state.ensures
           c.tree.ensures c.in-Ok.ensures.finds));
       most = c.requires;
     }
@@ -40,7 +40,7 @@ pub returns-in-Ok : goal.returns-in-Ok
 returns-in-Ok g c =
     let old = c.args.port.now in let look = c.in-Ok.look in
     let m = c.args.self.now.mount in
-    let image = c.image.result.now.tables in let tree = c.tree.result in
+    let state = c.state.result.now.tables in let tree = c.tree.result in
     let taken = c.take_in-result in
     let finds = subst (λ (f : FileView). Finds f.mount old.known look.front look.shown look.tree) c.self.view_is
     c.in-Ok.ensures.finds in
@@ -48,18 +48,18 @@ returns-in-Ok g c =
     back_at old c.look.new.self c.come_back.new.self look.front c.in-Ok.ensures.seated c.in-Ok.ensures.out
     c.come_back.ensures in
     let all =
-    comes m old.known c.come_back.new.self.known look image tree
+    comes m old.known c.come_back.new.self.known look state tree
     (IsUngiven g.E.Enters.gives old.known old.seated) _ _ finds
-    back.known c.image.ensures c.tree.ensures taken.ensures.taken in
+    back.known c.state.ensures c.tree.ensures taken.ensures.taken in
     record {
       later = all.later;
       told = all.told;
       refused =
-          part_lacks m old.known c.come_back.new.self.known look.front image tree
+          part_lacks m old.known c.come_back.new.self.known look.front state tree
           (λ k. IsUngiven g.E.Enters.gives k old.seated) taken.result
-          (found_in m old.known look.front look.shown image look.tree tree c.image.ensures c.tree.ensures finds)
+          (found_in m old.known look.front look.shown state look.tree tree c.state.ensures c.tree.ensures finds)
           back.known taken.ensures.refused
-          (not_taken (pages_shown image) tree taken.result _ taken.ensures.taken taken.ensures.refused);
+          (not_taken (pages_shown state) tree taken.result _ taken.ensures.taken taken.ensures.refused);
       within = taken.ensures.within;
       end = taken.ensures.end;
       kept = back.kept;

@@ -7,7 +7,7 @@ use Rattle.nl_mounts.proofs.files.FileAt.take_in.Goals as goal
 
 pub returns-in-Some-clause-taken : goal.returns-in-Some-clause-taken
 returns-in-Some-clause-taken g c =
-    let as_told = subst (λ (f : FileView). HoldsAsTold f.mount (pages_shown c.args.image.now.tables) c.args.tree)
+    let as_told = subst (λ (f : FileView). HoldsAsTold f.mount (pages_shown c.args.state.now.tables) c.args.tree)
     (sym c.self.view_is) c.requires.holds in
     of_tree _ c.args.tree c.in-Some.found _ _ c.in-Some.is (λ t means.
     subst (λ (f : FileView). IsTakenOf t f.path c.args.offset c.args.len (Ok c.ok.result))

@@ -25,9 +25,9 @@ returns-in-Ok g c =
     c.come_back.ensures in
     let all =
     comes c.args.mount.now old.known c.come_back.new.self.known look
-    c.image.result.now.tables c.tree.result (IsUngiven g.E.Enters.gives old.known old.seated) _ _
+    c.state.result.now.tables c.tree.result (IsUngiven g.E.Enters.gives old.known old.seated) _ _
     c.in-Ok.ensures.finds
-    back.known c.image.ensures c.tree.ensures c.reply_in-reply.ensures in
+    back.known c.state.ensures c.tree.ensures c.reply_in-reply.ensures in
     record {
       later = all.later;
       looked = all.looked;

@@ -1,5 +1,5 @@
 use Rattle.std.proofs.Common.{ap, sym, ◌∙◌, subst}
-use Rattle.nl_publish.specs.declared.image.Image.{Image}
+use Rattle.nl_publish.specs.declared.reader_state.ReaderState.{ReaderState}
 use Rattle.nl_publish.specs.Histories.{Known}
 use Rattle.nl_mounts.specs.Ports.{GivenNone, GivenOlder, IsOlder, NotGiven, PortView}
 use Rattle.nl_mounts.proofs.port.Port.look.Goals as goal
@@ -20,4 +20,4 @@ returns-in-None-clause-missed g c =
     ∙ (c.volume-2.ensures.volume ∙ ap (λ (p : PortView). p.known.volume) c.self.view_is))))
     (GivenOlder c.in-Some.reader (g.E.Enters.shown c.in-Ok.inside) c.in-Ok.ensures.1
     (subst (λ (p : PortView). IsOlder (g.E.Enters.shown c.in-Ok.inside) p.known) c.self.view_is
-    (subst (λ (i : Image). IsOlder i c.self.inside.front) c.image.ensures c.in-None.ensures.older)))
+    (subst (λ (i : ReaderState). IsOlder i c.self.inside.front) c.state.ensures c.in-None.ensures.older)))

@@ -10,9 +10,9 @@ use Rattle.nl_mounts.proofs.port.Port.open.Goals as goal
 pub open_in-result-requires : goal.open_in-result-requires
 open_in-result-requires g c =
     let m = c.args.mount.now in let old = c.args.self.now.known in let look = c.in-Ok.look in
-    holds_as_told m old look.front c.image.result.now.tables c.tree.result c.told.ensures.claim
+    holds_as_told m old look.front c.state.result.now.tables c.tree.result c.told.ensures.claim
     (subst (λ (k : Known). IsBegun k.commits) c.told.ensures.told c.volume.ensures.begun)
-    (found_in m old look.front look.shown c.image.result.now.tables look.tree c.tree.result c.image.ensures
+    (found_in m old look.front look.shown c.state.result.now.tables look.tree c.tree.result c.state.ensures
     c.tree.ensures c.in-Ok.ensures.finds)
 
 pub come_back-requires : goal.come_back-requires
@@ -35,9 +35,9 @@ returns-in-Ok g c =
     c.come_back.ensures in
     let all =
     comes c.args.mount.now old.known c.come_back.new.self.known look
-    c.image.result.now.tables c.tree.result (IsUngiven g.E.Enters.gives old.known old.seated) _ _
+    c.state.result.now.tables c.tree.result (IsUngiven g.E.Enters.gives old.known old.seated) _ _
     c.in-Ok.ensures.finds
-    back.known c.image.ensures c.tree.ensures c.open_in-result.ensures.opens in
+    back.known c.state.ensures c.tree.ensures c.open_in-result.ensures.opens in
     record {
       later = all.later;
       looked = all.looked;

@@ -24,7 +24,7 @@ returns-in-Ok g c =
     back_at old c.visit.new.self c.come_back.new.self look.front c.in-Ok.ensures.seated c.in-Ok.ensures.out
     c.come_back.ensures in
     let all =
-    came_back old.known c.come_back.new.self.known look c.image.result.now.tables
-    (IsUngiven g.E.Enters.gives old.known old.seated) _ _ c.in-Ok.ensures.enters back.known c.image.ensures
+    came_back old.known c.come_back.new.self.known look c.state.result.now.tables
+    (IsUngiven g.E.Enters.gives old.known old.seated) _ _ c.in-Ok.ensures.enters back.known c.state.ensures
     c.read_kept-result.ensures in
     record { later = all.later; visited = all.visited; kept = back.kept }

@@ -29,25 +29,25 @@ returns-in-Err-clause-looked g c =
 pub returns-in-Ok : goal.returns-in-Ok
 returns-in-Ok g c =
     let m = c.args.mount.now in let old = c.args.self.now.known in let look = c.in-Ok.look in
-    let image = c.image.result.now.tables in
+    let state = c.state.result.now.tables in
     let tree = c.tree.result in
     let result = c.warm_in-result.result in
     let was = c.args.cache.now in let now = c.warm_in-result.new.cache in
     let finds =
-    found_in m old look.front look.shown image look.tree tree c.image.ensures c.tree.ensures
+    found_in m old look.front look.shown state look.tree tree c.state.ensures c.tree.ensures
     c.in-Ok.ensures.finds in
-    let pages = seen_on old look.front (Some was) (finds_seen m old look.front image tree finds) c.requires in
+    let pages = seen_on old look.front (Some was) (finds_seen m old look.front state tree finds) c.requires in
     let back =
     back_at c.args.self.now c.look.new.self c.come_back.new.self look.front c.in-Ok.ensures.seated
     c.in-Ok.ensures.out c.come_back.ensures in
     let all =
-    comes m old c.come_back.new.self.known look image tree
+    comes m old c.come_back.new.self.known look state tree
     (IsUngiven g.E.Enters.gives old c.args.self.now.seated) _ _ c.in-Ok.ensures.finds
-    back.known c.image.ensures c.tree.ensures c.warm_in-result.ensures.refused in
+    back.known c.state.ensures c.tree.ensures c.warm_in-result.ensures.refused in
     record {
       kept = back.kept;
       pages = subst (λ (k : Known). AreCachedPages k.commits (Some now)) (sym back.known)
-          (put_pages m old look.front image tree was now finds c.warm_in-result.ensures.stored pages);
+          (put_pages m old look.front state tree was now finds c.warm_in-result.ensures.stored pages);
       later = all.later;
       looked = all.looked;
       told = all.told;
@@ -56,7 +56,7 @@ returns-in-Ok g c =
           Warms (OfMountFile (shown_after k.commits) m.number c.args.path.now) c.args.offset c.args.len was
           result now)
           (sym back.known)
-          (warms_at m old look.front image tree c.args.path.now c.args.offset c.args.len was now result finds
-          (warming_refused (pages_shown image) tree result _ c.warm_in-result.ensures.refused)
+          (warms_at m old look.front state tree c.args.path.now c.args.offset c.args.len was now result finds
+          (warming_refused (pages_shown state) tree result _ c.warm_in-result.ensures.refused)
           c.warm_in-result.ensures.warmed);
     }

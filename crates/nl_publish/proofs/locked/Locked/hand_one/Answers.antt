@@ -1,6 +1,6 @@
 use Rattle.std.proofs.Common.{ℕ, ◌+◌, ◌<◌, ◌≤◌, ◌++◌, ◌∷◌, [], ap, arith, length, subst, sym, Option}
 use Rattle.nl_commit.specs.Notes.{shown_of}
-use Rattle.nl_publish.specs.declared.image.Entry.{Entry}
+use Rattle.nl_publish.specs.declared.reader_state.Entry.{Entry}
 use Rattle.nl_publish.specs.Histories.{Adding}
 use Rattle.nl_publish.specs.Locks.{HeldPen, IsHeld, StaysHeld, listed}
 use Rattle.nl_publish.specs.Refusals.{HasRefused}

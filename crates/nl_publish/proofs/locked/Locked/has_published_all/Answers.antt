@@ -2,7 +2,7 @@ use Rattle.std.proofs.Common.{rules, ◌≡◌, ◌≢◌, [], ap, eqb, sym, ◌
 use Rattle.std.proofs.lemmas.Bool.{eqb-false}
 use Rattle.nl_commit.specs.declared.commit.Commit.{Commit}
 use Rattle.nl_commit.specs.Notes.{shown_of}
-use Rattle.nl_publish.specs.declared.image.Image.{Image}
+use Rattle.nl_publish.specs.declared.reader_state.ReaderState.{ReaderState}
 use Rattle.nl_publish.specs.Locks.{HeldPen, IsHeld, listed}
 use Rattle.nl_publish.proofs.Holding.{settled, pending, empty_where}
 use Rattle.nl_publish.proofs.locked.Locked.has_published_all.Goals as goal
@@ -31,16 +31,16 @@ returns g c =
     IsHeld g.J.Volumes.book s.log.volume (w.shown s.writer)
     (w.unseen s.writer ++ listed s.unsent) s.noted l (shown_of (g.P.NotingPen.layout s.pen)))
     none c.self.invariant in
-    let image : Image = c.image.result.now in
-    let same : eqb (w.shown s.writer).count (length s.noted.commits) ≡ eqb image.count c.len.result =
-    ap (λ (q : Image). eqb q.count (length s.noted.commits)) (sym c.image.ensures)
-    ∙ ap (eqb image.count) (sym c.len.ensures) in
+    let state : ReaderState = c.state.result.now in
+    let same : eqb (w.shown s.writer).count (length s.noted.commits) ≡ eqb state.count c.len.result =
+    ap (λ (q : ReaderState). eqb q.count (length s.noted.commits)) (sym c.state.ensures)
+    ∙ ap (eqb state.count) (sym c.len.ensures) in
     subst (λ (h : HeldPen).
-    MatchBool (eqb image.count c.len.result) (h.published ≡ h.history) (h.published ≢ h.history))
+    MatchBool (eqb state.count c.len.result) (h.published ≡ h.history) (h.published ≢ h.history))
     c.self.view_is
     (subst (λ (l : List Commit).
-    MatchBool (eqb image.count c.len.result) ((w.shown s.writer).seen.log ≡ s.noted.commits ++ l)
+    MatchBool (eqb state.count c.len.result) ((w.shown s.writer).seen.log ≡ s.noted.commits ++ l)
     ((w.shown s.writer).seen.log ≢ s.noted.commits ++ l))
     (sym none)
     (settled g.J.Volumes.book s.log.volume (w.shown s.writer) (w.unseen s.writer ++ listed s.unsent) s.noted
-    (shown_of (g.P.NotingPen.layout s.pen)) (eqb image.count c.len.result) same held))
+    (shown_of (g.P.NotingPen.layout s.pen)) (eqb state.count c.len.result) same held))

@@ -4,7 +4,7 @@ use Rattle.nl_types.specs.declared.reply.Answer.TheVariants as answer
 use Rattle.nl_types.specs.Plain.Calls.{create}
 use Rattle.nl_types.specs.Plain.Paths.{Path}
 use Rattle.nl_tree.specs.Became.{Current, holding_over}
-use Rattle.nl_tree.specs.Held.{Listed, new_node}
+use Rattle.nl_tree.specs.Held.{Listed, new_object}
 use Rattle.nl_tree.specs.Overlays.{current_of}
 use Rattle.nl_tree.specs.Private.PathParts.{parts_of}
 use Rattle.nl_tree.proofs.CallsJudged.{create-exists, create-not_made, create-refused}
@@ -16,23 +16,23 @@ use Rattle.nl_tree.proofs.current.CurrentTree.create.Goals as goal
 
 pub returns-in-Err-clause-done : goal.returns-in-Err-clause-done
 returns-in-Err-clause-done g c = λ b tree holds is _.
-    let node = new_node c.args.kind in
+    let object = new_object c.args.kind in
     let names = c.in_ok-names.names.now in
     let held = holding_over c.args.self.now.became b in
-    at-parts (create tree node) c.args.path.now names c.in_ok-names.ensures c.if-is_empty.ensures
-    ∙ create-refused held tree is.stands.means node (parts_of names) c.in-Err.refusal
+    at-parts (create tree object) c.args.path.now names c.in_ok-names.ensures c.if-is_empty.ensures
+    ∙ create-refused held tree is.stands.means object (parts_of names) c.in-Err.refusal
     (c.in-Err.ensures held (c.view.ensures b holds is.sound))
 
 pub returns-then-is_some-clause-done : goal.returns-then-is_some-clause-done
 returns-then-is_some-clause-done g c = λ b tree holds is _.
-    let node = new_node c.args.kind in
+    let object = new_object c.args.kind in
     let names = c.in_ok-names.names.now in
     let held = holding_over c.args.self.now.became b in
     let place = c.in-Ok.place in
     let there = place-present held (parts_of names) place.directory place.name.now place.link
     (c.in-Ok.ensures held (c.view.ensures b holds is.sound)) c.if-is_some.ensures in
-    at-parts (create tree node) c.args.path.now names c.in_ok-names.ensures c.if-is_empty.ensures
-    ∙ create-exists held tree is.stands.means node
+    at-parts (create tree object) c.args.path.now names c.in_ok-names.ensures c.if-is_empty.ensures
+    ∙ create-exists held tree is.stands.means object
     (parts_of names) place.directory place.name.now there.0 there.1
 
 pub create-requires : goal.create-requires
@@ -58,15 +58,15 @@ pub returns-in_err-create-clause-done : goal.returns-in_err-create-clause-done
 returns-in_err-create-clause-done g c = λ b tree holds is.
     let given =
     err_from_is_err_and c.from_residual-in_err-create.result c.from_residual-in_err-create.ensures.1 in
-    let node = new_node c.args.kind in
+    let object = new_object c.args.kind in
     let names = c.in_ok-names.names.now in
     let held = holding_over c.args.self.now.became b in
     let place = c.in-Ok.place in
     let free = place-absent held (parts_of names) place.directory place.name.now place.link
     (c.in-Ok.ensures held (c.view.ensures b holds is.sound)) c.if-is_some.ensures in
     rw (given.1, given.2) (λ other.
-    at-parts (create tree node) c.args.path.now names c.in_ok-names.ensures c.if-is_empty.ensures
-    ∙ create-not_made held tree is.stands.means node
+    at-parts (create tree object) c.args.path.now names c.in_ok-names.ensures c.if-is_empty.ensures
+    ∙ create-not_made held tree is.stands.means object
     (parts_of names) place.directory place.name.now c.args.self.now.names
     c.in_err-create.field-0.0 free is.stands.count
     (refused_outside c.self.inside.overlay c.args.self.now b c.in_err-create.field-0.0 c.self.invariant
@@ -77,7 +77,7 @@ returns-in_err-create-clause-done g c = λ b tree holds is.
 
 pub returns-clause-done : goal.returns-clause-done
 returns-clause-done g c = λ b tree holds is.
-    let node = new_node c.args.kind in
+    let object = new_object c.args.kind in
     let names = c.in_ok-names.names.now in
     let held = holding_over c.args.self.now.became b in
     let place = c.in-Ok.place in
@@ -97,7 +97,7 @@ returns-clause-done g c = λ b tree holds is.
     let orderly =
     c.create.ensures.orderly c.self.invariant
     (is.sound.inode_numbers place.directory (Listed listed.0) listed.1.0) in
-    leads-at (create tree node) c.args.path.now names answer.Done (current_of c.create.new.self) b
+    leads-at (create tree object) c.args.path.now names answer.Done (current_of c.create.new.self) b
     c.in_ok-names.ensures c.if-is_empty.ensures
     (created-leads c.args.self.now b tree is c.args.kind
     (parts_of names) place.directory place.name.now listed.0

@@ -1,0 +1,90 @@
+/* nlfuse IMAGE DIR: mounts the volume of an image at a directory. Its current tree is there, read and
+ * written, and below .checkpoints the trees of its kept checkpoints. */
+#include "nlfuse.h"
+
+#include <errno.h>
+#include <fuse_opt.h>
+#include <stddef.h>
+#include <stdio.h>
+#include <stdlib.h>
+#include <string.h>
+#include <unistd.h>
+
+struct nlfuse nlfuse = {.lock = PTHREAD_MUTEX_INITIALIZER, .file = -1, .save_after = -1, .expire_after = -1};
+
+int told(uint32_t status) {
+    static const int errors[] = {
+        [NL_NOT_FOUND] = ENOENT,      [NL_NOT_DIRECTORY] = ENOTDIR, [NL_IS_DIRECTORY] = EISDIR,
+        [NL_EXISTS] = EEXIST,         [NL_NOT_EMPTY] = ENOTEMPTY,   [NL_BAD_NAME] = ENAMETOOLONG,
+        [NL_BAD_PATH] = ENAMETOOLONG, [NL_INTO_ITSELF] = EINVAL,    [NL_TOO_BIG] = EFBIG,
+        [NL_NO_CHECKPOINT] = ENOENT,  [NL_IS_SNAPSHOT] = EBUSY,     [NL_LATEST] = EBUSY,
+        [NL_NO_SPACE] = ENOSPC,       [NL_NO_MEMORY] = ENOMEM,      [NL_NUMBERS_SPENT] = ENOSPC,
+    };
+    uint32_t refusal = nl_refusal(status);
+    if (refusal == NL_DONE) return 0;
+    if (refusal >= sizeof errors / sizeof *errors || !errors[refusal]) return -EIO;
+    return -errors[refusal];
+}
+
+struct words {
+    char *image;
+    int save, expire, max, init, help;
+};
+
+static const struct fuse_opt options[] = {
+    {"save=%d", offsetof(struct words, save), 0},
+    {"expire=%d", offsetof(struct words, expire), 0},
+    {"max=%d", offsetof(struct words, max), 0},
+    {"init", offsetof(struct words, init), 1},
+    {"-h", offsetof(struct words, help), 1},
+    {"--help", offsetof(struct words, help), 1},
+    FUSE_OPT_END,
+};
+
+static const char help[] =
+    "usage: nlfuse IMAGE DIR [-o OPTION..]\n"
+    "\n"
+    "Mounts the volume of IMAGE at DIR: its current tree, and below DIR/.checkpoints the kept ones, by their\n"
+    "numbers and, in by-date, by their moments. `mkdir DIR/.checkpoints/now` makes a snapshot, and\n"
+    "`rmdir DIR/.checkpoints/N` removes a plain checkpoint; the attribute user.nlvol.mode of one is ss or cp,\n"
+    "and can be set. `fusermount3 -u DIR` saves the image. IMAGE is locked until then.\n"
+    "\n"
+    "    -o init              makes IMAGE where there is none\n"
+    "    -o save=SECONDS      fsync returns at the checkpoint, and the image is saved within so many seconds:\n"
+    "                         what was synced in these is lost if the machine stops. Else fsync saves it\n"
+    "    -o expire=SECONDS    where room lacks, plain checkpoints that are older are let go. Else none is\n"
+    "    -o max=MEGABYTES     how large the volume grows at most, 256 if it isn't told\n"
+    "    -f                   stays in the foreground\n"
+    "\n"
+    "and the options of mount.fuse3(8).\n";
+
+/* The first word that is no option is the image; the second one is for FUSE. */
+static int take_word(void *data, const char *word, int key, struct fuse_args *left) {
+    struct words *words = data;
+    (void)left;
+    if (key != FUSE_OPT_KEY_NONOPT || words->image) return 1;
+    words->image = strdup(word);
+    return 0;
+}
+
+int main(int argc, char **argv) {
+    struct fuse_args args = FUSE_ARGS_INIT(argc, argv);
+    struct words words = {.save = -1, .expire = -1, .max = 256};
+    if (fuse_opt_parse(&args, &words, options, take_word)) return 2;
+    if (words.help || !words.image) {
+        fputs(help, words.help ? stdout : stderr);
+        return words.help ? 0 : 2;
+    }
+    nlfuse.save_after = words.save;
+    nlfuse.expire_after = words.expire;
+    nlfuse.makes_image = words.init;
+    nlfuse.most_blocks = words.max > 0 && words.max < 256 ? (uint64_t)words.max * 1024 : 262144;
+    nlfuse.owner = getuid();
+    nlfuse.group = getgid();
+    clock_gettime(CLOCK_REALTIME, &nlfuse.began);
+    if (!open_image(words.image)) return 1;
+    fuse_opt_add_arg(&args, "-odefault_permissions,fsname=nlvol,subtype=nlfuse");
+    int status = fuse_main(args.argc, args.argv, &operations, NULL);
+    int error = close_image();
+    return status ? status : error ? 1 : 0;
+}

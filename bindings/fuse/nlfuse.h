@@ -1,0 +1,124 @@
+/* What the parts of nlfuse share. All of them run under one lock, which files.c takes. */
+#ifndef NLFUSE_H
+#define NLFUSE_H
+
+#define _GNU_SOURCE
+#define FUSE_USE_VERSION 314
+
+#include "nlvol.h"
+
+#include <fuse.h>
+#include <pthread.h>
+#include <stdbool.h>
+#include <sys/stat.h>
+#include <time.h>
+
+/* ---- the volume, and what the mount was told at its start */
+
+struct nlfuse {
+    nl_volume volume;
+    pthread_mutex_t lock;
+    /* The image: where it stands, and the file that holds its lock, or -1 where it is to be a new one. */
+    char *image;
+    int file;
+    /* With `-o save=SECONDS`: how long a save may wait. -1: not at all. */
+    int save_after;
+    /* With `-o expire=SECONDS`: which plain checkpoints a round of cleaning lets go. -1: none. */
+    int expire_after;
+    bool makes_image;
+    /* With `-o max=MEGABYTES`: how many blocks the volume has at most. */
+    uint64_t most_blocks;
+    /* Whether the volume differs from the image in the file. */
+    bool is_unsaved;
+    /* Who the files belong to of which no manifest tells, and when they were changed. */
+    uid_t owner;
+    gid_t group;
+    struct timespec began;
+};
+
+extern struct nlfuse nlfuse;
+
+/* The errno of POSIX that is like a refusal, negated as FUSE has it. */
+int told(uint32_t status);
+
+/* ---- saving.c */
+
+/* Opens the image and takes its lock, or makes a new volume. False: it can't be, and that is told. */
+bool open_image(const char *path);
+/* Saves what is not saved, gives the lock back, and closes the volume. 0, or an errno, negated. */
+int close_image(void);
+/* Makes a checkpoint of what has changed, and saves it: at once, or in so many seconds. */
+int sync_volume(void);
+void start_saving(void);
+void end_saving(void);
+
+/* ---- room.c */
+
+/* How many segments of so many blocks the volume has at most. */
+uint64_t most_segments(uint64_t blocks);
+/* Counts so many blocks to the next checkpoint, and makes room for them. 0, or -ENOSPC. */
+int take_room(uint64_t blocks);
+/* How many blocks so many bytes take at most that are written anew: of each its own, and of some their node;
+ * the inode and the nodes above. */
+uint64_t blocks_of(uint64_t bytes);
+/* A number that changes with each checkpoint. */
+uint64_t room_turn(void);
+/* Makes a checkpoint. */
+uint32_t make_checkpoint(uint32_t flags, uint64_t *number);
+
+/* ---- places.c */
+
+enum kind { IN_TREE, CHECKPOINTS, BY_DATE, DATE, NOW };
+
+/* Where a path of the mount leads: into a tree, 0 for the current one, or to what tells of checkpoints. */
+struct place {
+    enum kind kind;
+    uint64_t at;
+    const char *path;
+};
+
+int place_of(const char *path, struct place *place);
+bool row_of(uint64_t number, nl_checkpoint *row);
+/* Gives each kept checkpoint to a function, but for minor ones. */
+void each_checkpoint(void (*take)(const nl_checkpoint *row, void *with), void *with);
+/* Says that there may be others. */
+void checkpoints_changed(void);
+/* The name of one that was given so, in by-date. */
+void date_name(const nl_checkpoint *row, char name[64]);
+
+/* ---- attributes.c */
+
+struct attributes {
+    mode_t mode;
+    uid_t owner;
+    gid_t group;
+    struct timespec time;
+};
+
+/* What a tree tells of a path, or what is told where it tells nothing. */
+struct attributes attributes_at(uint64_t at, const char *path, bool is_dir);
+/* The target of a symbolic link, or NULL where none stands there. */
+const char *target_at(uint64_t at, const char *path);
+/* Gives each link right in a directory to a function. */
+void each_link(uint64_t at, const char *path, void (*take)(const char *name, void *with), void *with);
+bool has_links(const char *path);
+/* Whether the file .nlkeep of a directory is no manifest, and so is shown. */
+bool shows_manifest(uint64_t at, const char *path);
+/* Changes what the current tree tells. Each answers 0, or an errno, negated. */
+int set_attributes(const char *path, bool is_dir, const struct attributes *attributes);
+int set_link(const char *path, const char *target);
+int touch(const char *path, bool is_dir);
+void forget(const char *path, bool is_dir);
+int move_attributes(const char *from, const char *to, bool is_dir);
+/* Writes the manifests that have changed into the volume. */
+int settle_attributes(void);
+/* Counts what the next checkpoint writes of the directory of a path, with one name more. 0, or -ENOSPC. */
+int take_room_above(const char *path);
+/* Whether a name is that of manifests, which the mount doesn't show. */
+bool is_manifest_name(const char *path);
+
+/* ---- files.c */
+
+extern const struct fuse_operations operations;
+
+#endif

@@ -1,0 +1,11 @@
+pub mod Answers
+pub mod Calls
+pub mod CheckpointCalls
+pub mod Copying
+pub mod Manifests
+pub mod Openings
+pub mod Places
+pub mod Reads
+pub mod Saving
+pub mod SegmentCalls
+pub mod Statuses

@@ -1,0 +1,3 @@
+pub mod Loops
+pub mod Again
+pub mod Read

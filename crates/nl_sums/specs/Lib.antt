@@ -1,0 +1,4 @@
+pub mod Sums
+pub mod Texts
+pub mod Comparing
+pub mod Private

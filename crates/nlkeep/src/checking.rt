@@ -1,0 +1,340 @@
+//! `check`: whether an image is sound, and what of it changed since it was saved.
+ghost use Rattle.std.specs.Prelude.{◌≡◌, ◌⊎◌, IfErr, IfNone, IfOk, IfSome};
+ghost use Rattle.nl_types.specs.declared.error.VolError;
+ghost use Rattle.nl_image.specs.Conditions.{AreImage, FirstFails};
+
+use crate::asking::{Outcome, word};
+use crate::faults::{Fault, volume_fault};
+use crate::images::{pen_of, read_image};
+use crate::later::{Finding, Judged};
+use crate::leading::path_of;
+use crate::places::{Place, place_of};
+use crate::printing::Printer;
+use crate::sections::Sections;
+use crate::sums::{Summed, beside_sum, kept_in, sum_path};
+use crate::verdicts::tell_objects;
+use clap::ArgMatches;
+use nl_sums::{Comparison, Kept};
+use nl_types::{BLOCK_SIZE, VolError};
+use std::alloc::{AllocError, Global};
+use std::io::{self, Write};
+
+/// The number of the first condition that an image fails, as opening it tells. None where it is sound.
+fn first_failing(alloc: Global, image: &[u8]) -> Result<Option<u8>, VolError>
+    ensures sound { IfOk result (λ failing. IfNone failing (AreImage image.now)) }
+    ensures first { IfOk result (λ failing. IfSome failing (λ n. FirstFails n image.now)) }
+    ensures refused { IfErr result (λ e. (e ≡ VolError.Fault) ⊎ (e ≡ VolError.Memory)) }
+{
+    match pen_of(alloc, image) {
+        Ok(_) => Ok(None),
+        Err(VolError::BadImage(number)) => Ok(Some(number)),
+        Err(error) => Err(error),
+    }
+}
+
+/// What a condition asks of an image, as docs/SPECIFICATION.md has it.
+pub fn condition(number: u8) -> &'static str {
+    match number {
+        1 => "there are at least 1,024 bytes, and they begin with one of the two marks",
+        2 => {
+            "the superblock divides the volume within its limits and keeps a checkpoint, and its other bytes \
+             are zero"
+        }
+        3 => "the length is that of all parts",
+        4 => {
+            "a clean segment's entry is all zero; a dirty or active one uses a block at least, and none more \
+             than it has; one at most is active"
+        }
+        5 => {
+            "the numbers of checkpoints ascend, their stamps never fall, their flags are known, and each entry \
+             is one of a file of inodes"
+        }
+        6 => {
+            "a virtual block number has a period up to the latest checkpoint, and a used block that no other \
+             one has"
+        }
+        7 => {
+            "the used part of each segment is whole logs, one right behind another, whose records name the \
+             numbers of their blocks"
+        }
+        8 => {
+            "in each checkpoint roots, nodes and blocks of inodes have their shape, and each number met is in \
+             use and met once"
+        }
+        9 => "in each checkpoint the inodes hold a tree, which the entry tells rightly",
+        10 => "in each checkpoint the numbers met are those whose period has it",
+        _ => "the padding, and blocks outside used parts, are zero",
+    }
+}
+
+/// The end of a word that counts so many.
+fn ending(count: u64) -> &'static str {
+    if count == 1 { "" } else { "s" }
+}
+
+/// What is said of an image and its sum where no segment differs.
+fn said_of(summed: &Summed) -> &'static str {
+    match summed {
+        Summed::Missing => "is not there",
+        Summed::Unread => "cannot be read",
+        Summed::NoSum => "is no sum",
+        Summed::Compared(Comparison::Same) => "has the same bytes",
+        Summed::Compared(Comparison::OtherSave) => "is of another save",
+        Summed::Compared(Comparison::Differs(_)) => "is damaged itself",
+    }
+}
+
+/// The segments that differ from the sum.
+pub fn differing(summed: &Summed) -> &[u64] {
+    match summed {
+        Summed::Compared(Comparison::Differs(segments)) => segments.as_slice(),
+        _ => &[],
+    }
+}
+
+/// What is found of a condition of an image.
+#[derive(Clone, Copy)]
+pub struct Judgement {
+    pub number: u8,
+    pub finding: Finding,
+}
+
+/// The last condition of an image.
+const LAST: u8 = 11;
+
+/// An image that is told of.
+#[derive(Clone, Copy)]
+pub struct Told<'a> {
+    pub path: &'a str,
+    pub image: &'a [u8],
+    /// Where its sum stands.
+    pub sum_path: &'a str,
+    pub summed: &'a Summed,
+    /// The first condition that fails. None of a sound image.
+    pub failing: Option<u8>,
+    /// What is judged of the later ones, where that is asked.
+    pub judged: Option<Judged>,
+}
+
+impl Told<'_> {
+    /// Whether all conditions hold, and no segment differs from the sum.
+    pub fn is_sound(self) -> bool {
+        self.failing.is_none() && differing(self.summed).is_empty()
+    }
+
+    /// How many conditions are told behind the first that fails.
+    pub fn later(self, first: u8) -> u8 {
+        if self.judged.is_some() {
+            LAST.saturating_sub(first)
+        } else {
+            0
+        }
+    }
+
+    /// The condition that is the first to fail, and where.
+    pub fn first(self, alloc: Global, first: u8) -> Result<Judgement, AllocError> {
+        let place = place_of(alloc, self.image, first)?;
+        Ok(Judgement {
+            number: first,
+            finding: Finding::Fails(place),
+        })
+    }
+
+    /// What is found of the condition that stands at this place behind the first that fails.
+    pub fn judgement(self, alloc: Global, first: u8, place: u8) -> Result<Judgement, AllocError> {
+        let number = first.saturating_add(place).saturating_add(1);
+        let finding = match self.judged {
+            Some(judged) => judged.finding(alloc, self.image, number)?,
+            None => Finding::NotJudged,
+        };
+        Ok(Judgement { number, finding })
+    }
+
+    /// The first byte of a segment and the one behind its last. None where the image isn't divided.
+    pub fn place(self, segment: u64) -> Option<(u64, u64)> {
+        let sections = Sections::of(self.image)?;
+        let size = BLOCK_SIZE as u64 * u64::from(sections.geometry.blocks);
+        let begin = segment
+            .checked_mul(size)?
+            .checked_add(sections.places.blocks as u64)?;
+        Some((begin, begin.checked_add(size)?))
+    }
+
+    /// Tells which segments differ from the sum, a line each.
+    fn tell_segments<W: Write>(self, printer: &mut Printer<W>) -> io::Result<()> {
+        for segment in differing(self.summed) {
+            write!(printer.out, "segment {segment} differs from ")?;
+            printer.text(self.sum_path)?;
+            if let Some((begin, end)) = self.place(*segment) {
+                write!(printer.out, ": bytes {begin} to {}", end.saturating_sub(1))?;
+            }
+            printer.line()?;
+        }
+        Ok(())
+    }
+
+    /// Tells what the sum is, in the same line.
+    fn tell_sum<W: Write>(self, printer: &mut Printer<W>) -> io::Result<()> {
+        printer.text(self.sum_path)?;
+        writeln!(printer.out, " {}", said_of(self.summed))
+    }
+
+    /// Tells the sum, or the segments that differ from it.
+    fn tell_difference<W: Write>(self, printer: &mut Printer<W>) -> io::Result<()> {
+        if differing(self.summed).is_empty() {
+            self.tell_sum(printer)
+        } else {
+            self.tell_segments(printer)
+        }
+    }
+
+    /// Tells that all conditions hold.
+    fn tell_sound<W: Write>(self, printer: &mut Printer<W>) -> io::Result<()> {
+        if !self.is_sound() {
+            writeln!(
+                printer.out,
+                ": damaged: all conditions hold, and bytes of blocks differ"
+            )?;
+            return self.tell_segments(printer);
+        }
+        let Kept { count, latest } = kept_in(self.image);
+        let end = ending(count);
+        write!(
+            printer.out,
+            ": sound, {count} checkpoint{end} up to {latest}; "
+        )?;
+        self.tell_sum(printer)
+    }
+
+    /// Tells where a condition fails, with a path of the inode where one is known.
+    fn tell_place<W: Write>(
+        self,
+        alloc: Global,
+        place: Place,
+        printer: &mut Printer<W>,
+    ) -> Result<(), Fault> {
+        write!(printer.out, "{place}")?;
+        if let Some(path) = path_of(alloc, self.image, &place)? {
+            write!(printer.out, ", ")?;
+            printer.path(path.as_slice(), false)?;
+        }
+        printer.line()?;
+        Ok(())
+    }
+
+    /// Tells what is found of a condition, and where it fails.
+    fn tell_judgement<W: Write>(
+        self,
+        alloc: Global,
+        judgement: Judgement,
+        printer: &mut Printer<W>,
+    ) -> Result<(), Fault> {
+        let Judgement { number, finding } = judgement;
+        let text = condition(number);
+        match finding {
+            Finding::Holds => writeln!(printer.out, "condition {number} holds: {text}")?,
+            Finding::NotJudged => writeln!(printer.out, "condition {number}: not judged: {text}")?,
+            Finding::Fails(_) => writeln!(printer.out, "condition {number} fails: {text}")?,
+        }
+        match finding {
+            Finding::Fails(Some(place)) => self.tell_place(alloc, place, printer),
+            _ => Ok(()),
+        }
+    }
+
+    /// Tells the condition that is the first to fail, and where, and what is found of the later ones.
+    fn tell_failing<W: Write>(
+        self,
+        alloc: Global,
+        first: u8,
+        printer: &mut Printer<W>,
+    ) -> Result<(), Fault> {
+        write!(printer.out, ": damaged: ")?;
+        self.tell_judgement(alloc, self.first(alloc, first)?, printer)?;
+        for place in 0..self.later(first) {
+            self.tell_judgement(alloc, self.judgement(alloc, first, place)?, printer)?;
+        }
+        self.tell_difference(printer)?;
+        Ok(())
+    }
+
+    /// Tells what is found, by lines.
+    fn tell<W: Write>(self, alloc: Global, printer: &mut Printer<W>) -> Result<(), Fault> {
+        printer.text(self.path)?;
+        match self.failing {
+            Some(first) => self.tell_failing(alloc, first, printer),
+            None => {
+                self.tell_sound(printer)?;
+                Ok(())
+            }
+        }
+    }
+
+    /// What comes of the command.
+    fn outcome(self) -> Outcome {
+        if self.is_sound() {
+            Outcome::Done
+        } else {
+            Outcome::Differs
+        }
+    }
+}
+
+/// Tells a sum that can't be read: what is sound is then so but for it.
+fn with_sum_told(rt: &HostRuntime, told: Told<'_>, outcome: Outcome) -> Outcome {
+    if !matches!(told.summed, Summed::Unread) {
+        return outcome;
+    }
+    let _ = eprintln!(rt; "nlkeep: left out: {}: cannot be read", told.sum_path);
+    outcome.and(Outcome::Partly)
+}
+
+/// The first condition that the image at a path fails.
+fn failing_of(alloc: Global, path: &str, image: &[u8]) -> Result<Option<u8>, Fault> {
+    match first_failing(alloc, image) {
+        Ok(failing) => Ok(failing),
+        Err(error) => Err(volume_fault(alloc, path, error)),
+    }
+}
+
+/// What is judged of the later conditions of a damaged image, where that is asked.
+fn judged_of(
+    alloc: Global,
+    image: &[u8],
+    failing: Option<u8>,
+    is_all: bool,
+) -> Result<Option<Judged>, AllocError> {
+    if is_all && failing.is_some() {
+        Ok(Some(Judged::of(alloc, image)?))
+    } else {
+        Ok(None)
+    }
+}
+
+/// Judges an image, reads its sum, and tells what is found.
+pub fn check<W: Write>(
+    rt: &HostRuntime,
+    matches: &ArgMatches<'_>,
+    printer: &mut Printer<W>,
+) -> Result<Outcome, Fault> {
+    let alloc = rt.alloc();
+    let path = word(matches, "IMAGE");
+    let image = read_image(rt, path)?;
+    let sum_path = sum_path(alloc, path)?;
+    let failing = failing_of(alloc, path, image.as_slice())?;
+    let is_all = matches.get_flag("all");
+    let told = Told {
+        path,
+        image: image.as_slice(),
+        sum_path: sum_path.as_str(),
+        summed: &beside_sum(rt, sum_path.as_str(), image.as_slice())?,
+        failing,
+        judged: judged_of(alloc, image.as_slice(), failing, is_all)?,
+    };
+    if matches.get_flag("json") {
+        tell_objects(alloc, told, printer)?;
+    } else {
+        told.tell(alloc, printer)?;
+    }
+    Ok(with_sum_told(rt, told, told.outcome()))
+}

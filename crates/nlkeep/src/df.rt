@@ -1,0 +1,265 @@
+//! `df`: how many blocks of a volume are clean, needed and dead, and how many the next backup can write.
+use crate::asking::Outcome;
+use crate::capacity::Capacity;
+use crate::faults::{Fault, volume_fault};
+use crate::json::object;
+use crate::printing::Printer;
+use crate::sizes::size_shown;
+use clap::ArgMatches;
+use nl_core::Pen;
+use nl_device::MemDevice;
+use nl_types::{BLOCK_SIZE, Segment, SegmentState, VolError};
+use serde::Serialize;
+use std::alloc::Global;
+use std::io::Write;
+
+/// The blocks of a segment, or of all of them. A block is in one of these counts, which sum to all blocks.
+#[derive(Clone, Copy, Debug, PartialEq, Eq)]
+pub struct Blocks {
+    /// In segments without logs.
+    pub clean: u64,
+    /// Of the payload of logs, what a kept checkpoint reaches, or the tables of the volume.
+    pub needed: u64,
+    /// What else logs have as payload, which cleaning gives back.
+    pub dead: u64,
+    /// What logs begin with.
+    pub summaries: u64,
+    /// Behind the last log of a segment.
+    pub unused: u64,
+}
+
+const NO_BLOCKS: Blocks = Blocks {
+    clean: 0,
+    needed: 0,
+    dead: 0,
+    summaries: 0,
+    unused: 0,
+};
+
+impl Blocks {
+    /// Those of a segment with logs: its blocks, the used ones, the payload, and what of that is needed.
+    fn of_logs(all: u64, used: u64, payload: u64, needed: u64) -> Blocks {
+        Blocks {
+            clean: 0,
+            needed,
+            dead: payload.saturating_sub(needed),
+            summaries: used.saturating_sub(payload),
+            unused: all.saturating_sub(used),
+        }
+    }
+
+    fn plus(self, other: Blocks) -> Blocks {
+        Blocks {
+            clean: self.clean.saturating_add(other.clean),
+            needed: self.needed.saturating_add(other.needed),
+            dead: self.dead.saturating_add(other.dead),
+            summaries: self.summaries.saturating_add(other.summaries),
+            unused: self.unused.saturating_add(other.unused),
+        }
+    }
+}
+
+/// A segment, and what its blocks are.
+#[derive(Clone, Copy)]
+pub struct SegmentUse {
+    pub state: SegmentState,
+    pub blocks: Blocks,
+}
+
+fn use_of(pen: &Pen<MemDevice>, segment: Segment) -> Result<SegmentUse, VolError> {
+    let info = pen.segments().suinfo(segment)?;
+    let all = u64::from(pen.segments().blocks());
+    let blocks = match info.state {
+        SegmentState::Clean => Blocks {
+            clean: all,
+            ..NO_BLOCKS
+        },
+        _ => Blocks::of_logs(
+            all,
+            u64::from(info.used),
+            u64::from(pen.payload_count(segment)),
+            u64::from(pen.needed(segment)?),
+        ),
+    };
+    Ok(SegmentUse {
+        state: info.state,
+        blocks,
+    })
+}
+
+/// What each segment of a volume is in use for. `path` is where its image stands.
+pub fn segment_uses(
+    alloc: Global,
+    path: &str,
+    pen: &Pen<MemDevice>,
+) -> Result<Vec<SegmentUse>, Fault> {
+    let mut uses = Vec::new(alloc);
+    let count = u32::try_from(pen.segments().sustat().segments).unwrap_or(0);
+    for number in 0..count {
+        match use_of(pen, Segment::new(number)) {
+            Ok(used) => uses.push(used)?,
+            Err(error) => return Err(volume_fault(alloc, path, error)),
+        }
+    }
+    Ok(uses)
+}
+
+/// How a volume is in use.
+#[derive(Clone, Copy)]
+pub struct VolumeUse {
+    pub segments: u64,
+    pub clean_segments: u64,
+    /// Segments to which a write failed.
+    pub failed_segments: u64,
+    pub blocks: Blocks,
+}
+
+impl VolumeUse {
+    pub fn of(uses: &[SegmentUse]) -> VolumeUse {
+        let mut whole = VolumeUse {
+            segments: uses.len() as u64,
+            clean_segments: 0,
+            failed_segments: 0,
+            blocks: NO_BLOCKS,
+        };
+        for one in uses {
+            whole.blocks = whole.blocks.plus(one.blocks);
+            match one.state {
+                SegmentState::Clean => whole.clean_segments = whole
+                    .clean_segments
+                    .saturating_add(1),
+                SegmentState::Error => whole.failed_segments = whole
+                    .failed_segments
+                    .saturating_add(1),
+                SegmentState::Dirty | SegmentState::Active => {}
+            }
+        }
+        whole
+    }
+}
+
+/// The object that `df --json` writes.
+#[derive(Drop, Serialize)]
+struct UseObject {
+    segments: u64,
+    clean_segments: u64,
+    failed_segments: u64,
+    block_bytes: u64,
+    blocks: u64,
+    clean: u64,
+    needed: u64,
+    dead: u64,
+    summaries: u64,
+    unused: u64,
+    /// How many blocks the next backup can write: as the volume is, and where it grows as far as it can.
+    room: u64,
+    room_grown: u64,
+}
+
+fn object_of(whole: VolumeUse, blocks: u64, capacity: Capacity) -> UseObject {
+    UseObject {
+        segments: whole.segments,
+        clean_segments: whole.clean_segments,
+        failed_segments: whole.failed_segments,
+        block_bytes: BLOCK_SIZE as u64,
+        blocks,
+        clean: whole.blocks.clean,
+        needed: whole.blocks.needed,
+        dead: whole.blocks.dead,
+        summaries: whole.blocks.summaries,
+        unused: whole.blocks.unused,
+        room: capacity.present as u64,
+        room_grown: capacity.grown as u64,
+    }
+}
+
+/// Tells how a volume is in use, a line for each kind of blocks.
+fn tell<W: Write>(whole: VolumeUse, blocks: u64, printer: &mut Printer<W>) -> Result<(), Fault> {
+    let VolumeUse {
+        segments,
+        clean_segments,
+        failed_segments,
+        blocks: kinds,
+    } = whole;
+    let out = &mut printer.out;
+    writeln!(
+        out,
+        "{blocks:>8}  blocks of {BLOCK_SIZE} bytes, in {segments} segments"
+    )?;
+    writeln!(
+        out,
+        "{:>8}  clean, in {clean_segments} segments",
+        kinds.clean
+    )?;
+    writeln!(out, "{:>8}  needed", kinds.needed)?;
+    writeln!(out, "{:>8}  dead", kinds.dead)?;
+    writeln!(out, "{:>8}  summaries of logs", kinds.summaries)?;
+    writeln!(
+        out,
+        "{:>8}  unused, behind the logs of a segment",
+        kinds.unused
+    )?;
+    if failed_segments > 0 {
+        writeln!(out, "{failed_segments:>8}  segments in error")?;
+    }
+    Ok(())
+}
+
+/// Tells how many blocks the next backup can write, and how many bytes those have.
+fn tell_capacity<W: Write>(
+    alloc: Global,
+    capacity: Capacity,
+    segment_blocks: u32,
+    printer: &mut Printer<W>,
+) -> Result<(), Fault> {
+    let Capacity {
+        present,
+        grown,
+        segments,
+    } = capacity;
+    let block = BLOCK_SIZE as u64;
+    let (bytes, grown_bytes) = (
+        block.saturating_mul(present as u64),
+        block.saturating_mul(grown as u64),
+    );
+    let whole = block
+        .saturating_mul(u64::from(segments))
+        .saturating_mul(u64::from(segment_blocks));
+    let size = size_shown(alloc, whole)?;
+    let out = &mut printer.out;
+    writeln!(
+        out,
+        "{present:>8}  can be written by the next backup: {bytes} bytes"
+    )?;
+    writeln!(
+        out,
+        "{grown:>8}  can be written if the volume grows to {size}: {grown_bytes} bytes"
+    )?;
+    Ok(())
+}
+
+/// Tells how the volume of an image is in use.
+pub fn df<W: Write>(
+    alloc: Global,
+    matches: &ArgMatches<'_>,
+    path: &str,
+    pen: &Pen<MemDevice>,
+    printer: &mut Printer<W>,
+) -> Result<Outcome, Fault> {
+    let uses = segment_uses(alloc, path, pen)?;
+    let whole = VolumeUse::of(uses.as_slice());
+    let blocks = whole
+        .segments
+        .saturating_mul(u64::from(pen.segments().blocks()));
+    let capacity = match Capacity::of(alloc, pen.segments()) {
+        Ok(capacity) => capacity,
+        Err(error) => return Err(volume_fault(alloc, path, error)),
+    };
+    if matches.get_flag("json") {
+        object(alloc, &object_of(whole, blocks, capacity), printer)?;
+    } else {
+        tell(whole, blocks, printer)?;
+        tell_capacity(alloc, capacity, pen.segments().blocks(), printer)?;
+    }
+    Ok(Outcome::Done)
+}

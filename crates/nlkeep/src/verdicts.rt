@@ -1,0 +1,279 @@
+//! What `check` tells, by objects of JSON.
+use crate::checking::{Judgement, Told, condition, differing};
+use crate::culprits::Culprit;
+use crate::faults::Fault;
+use crate::json::{object, path_text};
+use crate::later::Finding;
+use crate::leading::path_of;
+use crate::places::Place;
+use crate::printing::Printer;
+use crate::sums::{Summed, kept_in};
+use nl_sums::Comparison;
+use nl_types::CheckpointNumber;
+use serde::Serialize;
+use std::alloc::{AllocError, Global};
+use std::io::Write;
+
+/// An image.
+#[derive(Drop, Serialize)]
+struct ImageObject {
+    /// Whether all conditions hold, and no segment differs.
+    sound: bool,
+    checkpoints: u64,
+    /// The number of the latest one.
+    latest: u64,
+    sum: &'static str,
+}
+
+/// Where a condition fails, by what is known.
+#[derive(Clone, Copy, Drop, Serialize)]
+struct PlaceObject {
+    #[serde(skip_serializing_if = "Option::is_none")]
+    byte: Option<u64>,
+    #[serde(skip_serializing_if = "Option::is_none")]
+    segment: Option<u64>,
+    #[serde(skip_serializing_if = "Option::is_none")]
+    block: Option<u64>,
+    /// A virtual block number.
+    #[serde(skip_serializing_if = "Option::is_none")]
+    number: Option<u64>,
+    /// The place of an entry in the table of checkpoints.
+    #[serde(skip_serializing_if = "Option::is_none")]
+    entry: Option<u64>,
+    #[serde(skip_serializing_if = "Option::is_none")]
+    checkpoint: Option<u64>,
+    #[serde(skip_serializing_if = "Option::is_none")]
+    inode: Option<u64>,
+    /// How many bytes the image has, and how many its parts have.
+    #[serde(skip_serializing_if = "Option::is_none")]
+    bytes: Option<u64>,
+    #[serde(skip_serializing_if = "Option::is_none")]
+    due: Option<u64>,
+}
+
+const NOWHERE: PlaceObject = PlaceObject {
+    byte: None,
+    segment: None,
+    block: None,
+    number: None,
+    entry: None,
+    checkpoint: None,
+    inode: None,
+    bytes: None,
+    due: None,
+};
+
+/// A condition, and what is found of it.
+#[derive(Drop, Serialize)]
+struct ConditionObject {
+    condition: u8,
+    finding: &'static str,
+    text: &'static str,
+    #[serde(flatten)]
+    place: PlaceObject,
+    /// A path of the inode.
+    #[serde(skip_serializing_if = "Option::is_none")]
+    path: Option<String>,
+}
+
+/// A segment that differs from the sum.
+#[derive(Drop, Serialize)]
+struct SegmentObject {
+    segment: u64,
+    /// The first byte, and how many there are.
+    #[serde(skip_serializing_if = "Option::is_none")]
+    byte: Option<u64>,
+    #[serde(skip_serializing_if = "Option::is_none")]
+    bytes: Option<u64>,
+}
+
+/// What an image is beside its sum, in a word.
+fn sum_word(summed: &Summed) -> &'static str {
+    match summed {
+        Summed::Missing => "missing",
+        Summed::Unread => "unread",
+        Summed::NoSum => "no sum",
+        Summed::Compared(Comparison::Same) => "same",
+        Summed::Compared(Comparison::OtherSave) => "another save",
+        Summed::Compared(Comparison::Differs(segments)) => {
+            if segments.is_empty() {
+                "damaged"
+            } else {
+                "differs"
+            }
+        }
+    }
+}
+
+fn inode_in(culprit: &Culprit) -> Option<u64> {
+    match culprit {
+        Culprit::Inode(number) => Some(number.get()),
+        Culprit::Number(_) => None,
+    }
+}
+
+fn number_in(culprit: &Culprit) -> Option<u64> {
+    match culprit {
+        Culprit::Inode(_) => None,
+        Culprit::Number(number) => Some(number.get()),
+    }
+}
+
+fn tree_object(checkpoint: u64, culprit: &Option<Culprit>) -> PlaceObject {
+    let whole = PlaceObject {
+        checkpoint: Some(checkpoint),
+        ..NOWHERE
+    };
+    match culprit {
+        Some(culprit) => PlaceObject {
+            inode: inode_in(culprit),
+            number: number_in(culprit),
+            ..whole
+        },
+        None => whole,
+    }
+}
+
+fn place_object(place: &Place) -> PlaceObject {
+    match place {
+        Place::Length { bytes, parts } => PlaceObject {
+            bytes: Some(*bytes),
+            due: Some(*parts),
+            ..NOWHERE
+        },
+        Place::Superblock(byte) | Place::Padding(byte) => PlaceObject {
+            byte: Some(*byte),
+            ..NOWHERE
+        },
+        Place::Segment { byte, segment } => PlaceObject {
+            byte: Some(*byte),
+            segment: Some(*segment),
+            ..NOWHERE
+        },
+        Place::Number { byte, number } => PlaceObject {
+            byte: Some(*byte),
+            number: Some(*number),
+            ..NOWHERE
+        },
+        Place::Entry { byte, place } => PlaceObject {
+            byte: Some(*byte),
+            entry: Some(*place),
+            ..NOWHERE
+        },
+        Place::Block {
+            byte,
+            segment,
+            block,
+        } => PlaceObject {
+            byte: Some(*byte),
+            segment: Some(*segment),
+            block: Some(*block),
+            ..NOWHERE
+        },
+        Place::Tree {
+            checkpoint,
+            culprit,
+        } => tree_object(checkpoint.get(), culprit),
+    }
+}
+
+fn finding_word(finding: &Finding) -> &'static str {
+    match finding {
+        Finding::Holds => "holds",
+        Finding::NotJudged => "not judged",
+        Finding::Fails(_) => "fails",
+    }
+}
+
+fn finding_place(finding: &Finding) -> PlaceObject {
+    match finding {
+        Finding::Fails(Some(place)) => place_object(place),
+        _ => NOWHERE,
+    }
+}
+
+/// A path of the inode at which a condition fails.
+fn finding_path(
+    alloc: Global,
+    image: &[u8],
+    finding: &Finding,
+) -> Result<Option<String>, AllocError> {
+    let Finding::Fails(Some(place)) = finding else {
+        return Ok(None);
+    };
+    match path_of(alloc, image, place)? {
+        Some(path) => Ok(Some(path_text(alloc, path.as_slice())?)),
+        None => Ok(None),
+    }
+}
+
+fn condition_object(
+    alloc: Global,
+    image: &[u8],
+    judgement: Judgement,
+) -> Result<ConditionObject, AllocError> {
+    Ok(ConditionObject {
+        condition: judgement.number,
+        finding: finding_word(&judgement.finding),
+        text: condition(judgement.number),
+        place: finding_place(&judgement.finding),
+        path: finding_path(alloc, image, &judgement.finding)?,
+    })
+}
+
+fn segment_object(told: Told<'_>, segment: u64) -> SegmentObject {
+    let place = told.place(segment);
+    SegmentObject {
+        segment,
+        byte: place.map(|(begin, _)| begin),
+        bytes: place.map(|(begin, end)| end.saturating_sub(begin)),
+    }
+}
+
+/// Tells the first condition that fails, and the later ones that are told.
+fn tell_conditions<W: Write>(
+    alloc: Global,
+    told: Told<'_>,
+    first: u8,
+    printer: &mut Printer<W>,
+) -> Result<(), Fault> {
+    let judgement = told.first(alloc, first)?;
+    object(
+        alloc,
+        &condition_object(alloc, told.image, judgement)?,
+        printer,
+    )?;
+    for place in 0..told.later(first) {
+        let judgement = told.judgement(alloc, first, place)?;
+        object(
+            alloc,
+            &condition_object(alloc, told.image, judgement)?,
+            printer,
+        )?;
+    }
+    Ok(())
+}
+
+/// Tells what is found of an image: an object of all of it, one of each condition that is told, and one of each
+/// segment that differs from the sum.
+pub fn tell_objects<W: Write>(
+    alloc: Global,
+    told: Told<'_>,
+    printer: &mut Printer<W>,
+) -> Result<(), Fault> {
+    let kept = kept_in(told.image);
+    let whole = ImageObject {
+        sound: told.is_sound(),
+        checkpoints: kept.count,
+        latest: kept.latest,
+        sum: sum_word(told.summed),
+    };
+    object(alloc, &whole, printer)?;
+    if let Some(first) = told.failing {
+        tell_conditions(alloc, told, first, printer)?;
+    }
+    for segment in differing(told.summed) {
+        object(alloc, &segment_object(told, *segment), printer)?;
+    }
+    Ok(())
+}

@@ -1,0 +1,317 @@
+"""Rows of tests/library on a mount: real programs, checkpoints, what outlives a mount, room, and random calls
+beside a plain folder."""
+
+import contextlib
+import errno
+import os
+import random
+import shutil
+import stat
+import subprocess
+import time
+
+
+class Mount:
+    """An image that nlfuse mounts; unmounted, and so saved, at the end of a `with`."""
+
+    def __init__(self, program, work, name, *options):
+        self.program, self.options, self.runs = program, options, None
+        self.image, self.top = os.path.join(work, name + ".img"), os.path.join(work, name)
+        os.makedirs(self.top, exist_ok=True)
+
+    def __enter__(self):
+        words = [self.program, self.image, self.top, "-f", "-o", ",".join(["init", *self.options])]
+        self.runs = subprocess.Popen(words)
+        until = time.monotonic() + 60
+        while not os.path.ismount(self.top):
+            if self.runs.poll() is not None or time.monotonic() > until:
+                self.runs.kill()
+                raise AssertionError(f"{words}: nothing is mounted")
+            time.sleep(0.05)
+        return self
+
+    def __exit__(self, *_):
+        # lazily, so that a row which failed with a file open leaves no mount
+        subprocess.run(["fusermount3", "-u", "-z", self.top], check=True)
+        if self.runs.wait(120):
+            raise AssertionError(f"nlfuse ended with {self.runs.returncode}")
+
+    def at(self, *names):
+        return os.path.join(self.top, *names)
+
+    def numbers(self):
+        return sorted(int(it) for it in os.listdir(self.at(".checkpoints")) if it.isdigit())
+
+    def snapshot(self):
+        os.mkdir(self.at(".checkpoints", "now"))
+        return self.numbers()[-1]
+
+
+def run(*words, **how):
+    ran = subprocess.run(words, capture_output=True, text=True, check=False, **how)
+    if ran.returncode:
+        raise AssertionError(f"{words}: {ran.returncode}: {(ran.stderr or ran.stdout).strip()[-300:]}")
+    return ran.stdout
+
+
+def contents(top, at=""):
+    """Each path below a folder: a directory's is None, a link's its target, and a file's its bytes."""
+    found = {}
+    for name in sorted(os.listdir(os.path.join(top, at))):
+        if name == ".checkpoints":
+            continue
+        path = os.path.join(at, name)
+        whole = os.path.join(top, path)
+        if os.path.islink(whole):
+            found[path] = ("link", os.readlink(whole))
+        elif os.path.isdir(whole):
+            found[path] = None
+            found.update(contents(top, path))
+        else:
+            with open(whole, "rb") as it:
+                found[path] = it.read()
+    return found
+
+
+def attributes(top):
+    """The mode and the time of each path of a folder."""
+    found = {}
+    for path in contents(top):
+        told = os.lstat(os.path.join(top, path))
+        found[path] = (oct(told.st_mode), told.st_mtime_ns)
+    return found
+
+
+def sample(top):
+    """A folder with what a folder has."""
+    os.makedirs(os.path.join(top, "sub", "empty"))
+    for name, data, mode in [("a", b"1", 0o644), ("run", b"#!/bin/sh\n", 0o755), ("sub/b", b"2" * 5000, 0o600)]:
+        path = os.path.join(top, name)
+        with open(path, "wb") as it:
+            it.write(data)
+        os.chmod(path, mode)
+    os.symlink("../a", os.path.join(top, "sub", "to-a"))
+    for at, folders, files in os.walk(top, topdown=False):
+        for name in [*files, *folders]:
+            os.utime(os.path.join(at, name), (1000, 2000.5), follow_symlinks=False)
+
+
+def programs(mount, work, due):
+    """cp, diff, tar, rsync, git and sqlite3 on a mount; those that aren't here are told."""
+    plain, missing = os.path.join(work, "plain"), []
+    sample(plain)
+    with mount:
+        run("cp", "-a", plain, mount.at("copy"))
+        run("diff", "-r", plain, mount.at("copy"))
+        due(attributes(mount.at("copy")), attributes(plain), "modes and times of the copy")
+        run("tar", "-C", mount.at(), "-cf", os.path.join(work, "copy.tar"), "copy")
+        os.mkdir(mount.at("untarred"))
+        run("tar", "-C", mount.at("untarred"), "-xf", os.path.join(work, "copy.tar"))
+        run("diff", "-r", plain, mount.at("untarred/copy"))
+        for name, tried in [("rsync", with_rsync), ("git", with_git), ("sqlite3", with_sqlite)]:
+            if shutil.which(name):
+                tried(mount, work, plain, due)
+            else:
+                missing.append(name)
+        seen = contents(mount.top)
+    with mount:
+        due(contents(mount.top), seen, "the tree after a remount")
+        due(attributes(mount.at("copy")), attributes(plain), "modes and times after a remount")
+        if "git" not in missing:
+            run("git", "-C", mount.at("clone"), "fsck", "--strict")
+            due(run("git", "-C", mount.at("clone"), "status", "--short"), "", "git status")
+    return missing
+
+
+def with_rsync(mount, work, plain, due):
+    run("rsync", "-rlpt", plain + "/", mount.at("synced"))
+    due(run("rsync", "-rlpti", plain + "/", mount.at("synced")), "", "what rsync has to do the second time")
+
+
+def with_git(mount, work, plain, due):
+    origin = os.path.join(work, "origin")
+    who = ["-c", "user.name=a", "-c", "user.email=a@example.org"]
+    run("git", "init", "-q", origin)
+    shutil.copytree(plain, os.path.join(origin, "tree"), symlinks=True)
+    os.rmdir(os.path.join(origin, "tree", "sub", "empty"))  # git keeps none
+    run("git", "-C", origin, "add", ".")
+    run("git", *who, "-C", origin, "commit", "-qm", "first")
+    run("git", "clone", "-q", origin, mount.at("clone"))
+    run("git", "-C", mount.at("clone"), "fsck", "--strict")
+    due(run("git", "-C", mount.at("clone"), "status", "--short"), "", "git status")
+    run("diff", "-r", os.path.join(origin, "tree"), mount.at("clone/tree"))
+
+
+def with_sqlite(mount, work, plain, due):
+    script = "create table t(a, b);" + "".join(f"insert into t values({n}, hex(randomblob(50)));" for n in range(20))
+    run("sqlite3", mount.at("t.db"), "begin;" + script + "commit;")
+    run("sqlite3", mount.at("t.db"), "insert into t select a + 20, b from t;")
+    due(run("sqlite3", mount.at("t.db"), "pragma integrity_check; select count(*) from t;"), "ok\n40\n", "the database")
+
+
+def refused(number, call, *arguments):
+    try:
+        call(*arguments)
+    except OSError as error:
+        if error.errno == number:
+            return
+        raise AssertionError(f"due {errno.errorcode[number]}, came {error}") from error
+    raise AssertionError(f"due {errno.errorcode[number]} of {call.__name__} {arguments}")
+
+
+def checkpoints(mount, nlvol, due):
+    with mount:
+        with open(mount.at("a"), "w", encoding="utf-8") as it:
+            it.write("first")
+        first = mount.snapshot()
+        with open(mount.at("a"), "w", encoding="utf-8") as it:
+            it.write("second")
+            it.flush()
+            os.fsync(it.fileno())
+        old = mount.at(".checkpoints", str(first), "a")
+        due(open(old, encoding="utf-8").read(), "first", "the file of the snapshot")
+        due(stat.S_IMODE(os.stat(old).st_mode), 0o644, "its mode")
+        refused(errno.EROFS, open, old, "w")
+        refused(errno.EROFS, os.mkdir, mount.at(".checkpoints", str(first), "d"))
+        refused(errno.ENOENT, os.listdir, mount.at(".checkpoints", "99"))
+        refused(errno.EWOULDBLOCK, nlvol.open, mount.image)
+        with nlvol.load(open(mount.image, "rb").read()) as v:
+            due(v.read_bytes("/a"), b"second", "the file of the image after fsync")
+        dates = os.listdir(mount.at(".checkpoints", "by-date"))
+        due(sorted(os.readlink(mount.at(".checkpoints", "by-date", it)) for it in dates),
+            sorted(f"../{it}" for it in mount.numbers()), "where the dates lead to")
+        due(os.getxattr(mount.at(".checkpoints", str(first)), "user.nlvol.mode"), b"ss", "its mode")
+        refused(errno.EBUSY, os.rmdir, mount.at(".checkpoints", str(first)))
+        os.setxattr(mount.at(".checkpoints", str(first)), "user.nlvol.mode", b"cp")
+        os.rmdir(mount.at(".checkpoints", str(first)))
+        due(first in mount.numbers(), False, "the checkpoint that was removed")
+        due(mount.snapshot(), mount.numbers()[-1], "one more snapshot")
+        refused(errno.EPERM, open, mount.at(".nlkeep"), "w")
+        due(".nlkeep" in os.listdir(mount.top), False, "the manifest is listed")
+    with nlvol.load(open(mount.image, "rb").read()) as v:
+        due(v.read_bytes("/a"), b"second", "the file of the image")
+        due(v.manifest()["a"].mode, 0o644, "its mode in the manifest")
+
+
+def room(mount, due):
+    """That a full volume refuses the write, and all that it took is kept."""
+    taken = []
+    with mount:
+        with contextlib.suppress(OSError):
+            for number in range(1000):
+                path = mount.at(f"f{number}")
+                file = os.open(path, os.O_WRONLY | os.O_CREAT)
+                try:
+                    os.write(file, bytes([number % 256]) * 50000)
+                    taken.append(number)
+                finally:
+                    os.close(file)
+        if len(taken) in (0, 1000):
+            raise AssertionError(f"{len(taken)} files were taken")
+        with open(mount.at("f0"), "r+b", buffering=0) as it:
+            refused(errno.ENOSPC, it.write, bytes(60000))
+    with mount:
+        for number in taken[1:]:
+            due(open(mount.at(f"f{number}"), "rb").read(), bytes([number % 256]) * 50000, f"f{number}")
+
+
+def delayed(mount, nlvol, due):
+    with mount:
+        file = os.open(mount.at("a"), os.O_WRONLY | os.O_CREAT)
+        os.write(file, b"1")
+        os.fsync(file)
+        os.close(file)
+        due(os.path.exists(mount.image), False, "the image before its time")
+        until = time.monotonic() + 20
+        while not os.path.exists(mount.image) and time.monotonic() < until:
+            time.sleep(0.2)
+        with nlvol.load(open(mount.image, "rb").read()) as v:
+            due(v.read_bytes("/a"), b"1", "the file of the image")
+
+
+# ---- random calls
+
+NAMES = ["a", "b", "c", "d", "e.txt", "long-" + "n" * 60, "\u00fc", " blank", "-x"]
+LIKE = {errno.EBUSY, errno.EINVAL, errno.ENOTEMPTY, errno.EEXIST, errno.EISDIR, errno.ENOTDIR, errno.EPERM}
+
+
+def put(path, offset, data, flags):
+    file = os.open(path, os.O_WRONLY | flags, 0o644)
+    try:
+        os.lseek(file, offset, os.SEEK_SET)
+        return os.write(file, data) if data else 0
+    finally:
+        os.close(file)
+
+
+def cut(path, size):
+    os.truncate(path, size)
+
+
+def get(path, offset, size):
+    with open(path, "rb") as it:
+        it.seek(offset)
+        return it.read(size)
+
+
+def told(path):
+    it = os.lstat(path)
+    is_dir = stat.S_ISDIR(it.st_mode)
+    return oct(it.st_mode), 0 if is_dir else it.st_size, 0 if is_dir else it.st_nlink
+
+
+def drawn_call(draw, path, other):
+    """A call by a folder, with what it does there."""
+    size = draw.choice([0, 1, 10, 1000, 1023, 1024, 1025, 5000, 40000])
+    data, offset = draw.randbytes(size), draw.choice([0, 0, 10, 1024, 30000])
+    calls = [
+        (20, lambda at: put(at + path, offset, data, os.O_CREAT)),
+        (8, lambda at: put(at + path, 0, data, os.O_APPEND)),
+        (5, lambda at: cut(at + path, draw_size)),
+        (10, lambda at: get(at + path, offset, 5000)),
+        (8, lambda at: os.mkdir(at + path, 0o755)),
+        (6, lambda at: os.unlink(at + path)),
+        (3, lambda at: os.rmdir(at + path)),
+        (8, lambda at: os.rename(at + path, at + other)),
+        (3, lambda at: os.symlink(other, at + path)),
+        (3, lambda at: os.chmod(at + path, mode)),
+        (3, lambda at: os.utime(at + path, (5, moment))),
+        (5, lambda at: told(at + path)),
+        (3, lambda at: sorted(os.listdir(at + path))),
+    ]
+    draw_size, mode = draw.choice([0, 1, 1000, 1024, 50000]), draw.choice([0o600, 0o640, 0o755])
+    moment = draw.randrange(10**6)
+    return draw.choices([it for _, it in calls], [weight for weight, _ in calls])[0]
+
+
+def ended(call, at):
+    try:
+        return call(at)
+    except OSError as error:
+        return ("refused", "alike" if error.errno in LIKE else errno.errorcode[error.errno])
+
+
+def random_calls(mount, work, seed, count, due):
+    """Calls on a mount and in a plain folder, with snapshots, syncs and remounts between."""
+    draw, plain, kept = random.Random(seed), os.path.join(work, f"plain{seed}"), {}
+    os.mkdir(plain)
+    left = count
+    while left:
+        with mount:
+            for kept_at, tree in kept.items():
+                due(contents(mount.at(".checkpoints", str(kept_at))), tree, f"seed {seed}: checkpoint {kept_at}")
+            due(contents(mount.top), contents(plain), f"seed {seed}: the tree after a remount")
+            due(attributes(mount.top), attributes_by(mount, plain), f"seed {seed}: modes and links after a remount")
+            for step in range(min(left, 250)):
+                names = [["/" + draw.choice(NAMES) for _ in range(draw.choice([1, 1, 2, 3]))] for _ in range(2)]
+                call = drawn_call(draw, *map("".join, names))
+                due(ended(call, mount.top), ended(call, plain), f"seed {seed}, {left - step} to go: {names}")
+                if step % 80 == 40:
+                    kept[mount.snapshot()] = contents(plain)
+            left -= min(left, 250)
+
+
+def attributes_by(mount, plain):
+    """The modes of a plain folder, with the times that the mount has: the clocks of calls differ."""
+    modes, times = attributes(plain), attributes(mount.top)
+    return {path: (mode, times[path][1]) for path, (mode, _) in modes.items()}
