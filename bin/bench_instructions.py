@@ -65,17 +65,17 @@ def steps(count):
 
 def written_and_kept():
     """Lines that write a block, and their checkpoints."""
-    yield Case("write and checkpoint", 100, [], [*creates(1), "mkcp"], changes(100))
-    yield Case("the same on 4,096 segments", 100, WIDE, [*creates(1), "mkcp"], changes(100))
-    yield Case("the same beside 3,000 files", 100, [], [*creates(3000), "mkcp"], changes(100))
-    yield Case("the same beside 1,000 kept", 100, [], [*creates(1), *checkpoints(1000)], changes(100))
+    yield Case("write and checkpoint", 400, [], [*creates(1), "mkcp"], changes(400))
+    yield Case("the same on 4,096 segments", 400, WIDE, [*creates(1), "mkcp"], changes(400))
+    yield Case("the same beside 3,000 files", 400, [], [*creates(3000), "mkcp"], changes(400))
+    yield Case("the same beside 1,000 kept", 400, [], [*creates(1), *checkpoints(1000)], changes(400))
     one = [*large_file(1), "mkcp"]
-    yield Case("write of 1,024 bytes in 1 MB", 100, [], one, writes(1, "x" * 1024, 100))
-    yield Case("write of a byte in 1 MB", 100, [], one, writes(1, "x", 100))
-    yield Case("fill of 1,024 bytes in 1 MB", 100, [], one, fills(1, 100))
+    yield Case("write of 1,024 bytes in 1 MB", 400, [], one, writes(1, "x" * 1024, 400))
+    yield Case("write of a byte in 1 MB", 400, [], one, writes(1, "x", 400))
+    yield Case("fill of 1,024 bytes in 1 MB", 400, [], one, fills(1, 400))
     for size in (1, 10, 60):
         before = [*large_file(size), "mkcp"]
-        yield Case(f"the same of {size} MB, on 4,096 segments", 100, WIDE, before, fills(size, 100))
+        yield Case(f"the same of {size} MB, on 4,096 segments", 400, WIDE, before, fills(size, 400))
 
 
 def names_and_numbers():
@@ -95,7 +95,7 @@ def bytes_by_lines():
     """Each event is a byte."""
     long = [f"write /file1 0 {letter * MB}" for letter in "abab"]
     yield Case("byte written by lines of 1 MB", MB, [], creates(1), [f"write /file1 0 {'c' * MB}"])
-    yield Case("byte of an overwrite, and checkpoint", 4 * MB, [], [*creates(1), f"write /file1 0 {'c' * MB}", "mkcp"],
+    yield Case("byte of an overwrite, and checkpoint", 4 * MB, WIDE, [*creates(1), f"write /file1 0 {'c' * MB}", "mkcp"],
                [line for it in long for line in (it, "mkcp")])
     for size in (1, 60):
         before = [*large_file(size), "mkcp -s", "mount 2"]
@@ -135,8 +135,8 @@ class Counter:
         return case.name, (all_of - prepared) / (case.count or int(moved[1]))
 
     def of_call(self, call):
-        some, none = (self.count([self.trials, "bench", call, str(count)])[0] for count in (100, 0))
-        return f"write and checkpoint by {call}", (some - none) / 100
+        some, none = (self.count([self.trials, "bench", call, str(count)])[0] for count in (400, 0))
+        return f"write and checkpoint by {call}", (some - none) / 400
 
 
 def main():
