@@ -42,7 +42,7 @@ NAMES = re.compile(
 GOAL = re.compile(r"it is not proved that|found no proof")
 # A line that stands behind a function, or begins another item.
 OTHER_ITEM = re.compile(r"\}|(pub(\([a-z]+\))? )?(const \w+:|static|struct|enum|type|use|mod)\b|#\[derive")
-FUNCTION = re.compile(r"(\s*)(?:pub(?:\([a-z]+\))? )?(?:const )?(?:unsafe )?fn (\w+)")
+FUNCTION = re.compile(r"(\s*)(?:pub(?:\([a-z]+\))? )?(?:const )?(?:unsafe )?(?:extern \"C\" )?fn (\w+)")
 
 
 class Edit:
