@@ -11,7 +11,7 @@ ghost use Rattle.nl_blocktree.specs.Numbering.{CanTake};
 ghost use Rattle.nl_blocktree.specs.Putting.{GoesOn};
 ghost use Rattle.nl_blocktree.specs.Private.Writing.{BearsNode, PutsNode, ended_of, slots_with};
 
-use crate::read::{number_in, page_under, slot_of};
+use crate::read::page_under;
 use nl_layout::{Level, Node, Root, SLOTS, Tag};
 use nl_types::{BLOCK_SIZE, Block, InodeNumber, Page, VirtualNumber, VolError};
 use nl_vstore::{Batch, VRead, Vstore, next_number};
@@ -53,12 +53,10 @@ fn old_slots<V: VRead>(store: &V, old: Option<VirtualNumber>) -> [VirtualNumber;
     ensures slots { (s : ℕ) → s < 128 → numbered (slice_index result s) ≡ child (V.pages store.now) s old }
     ensures count { length result ≡ 128 }
 {
-    let page = page_under(store, old);
-    let mut slots = [VirtualNumber::new(0); SLOTS];
-    for s in 0..SLOTS {
-        slots[s] = number_in(slot_of(page, s));
+    match page_under(store, old) {
+        Some(page) => Node::slots_in_page(page),
+        None => [VirtualNumber::new(0); SLOTS],
     }
-    slots
 }
 
 /// Makes the edits of the blocks below a node in its slots.

@@ -61,12 +61,12 @@ fn is_from_words(source: Option<ValueSource>) -> bool
 
 /// What the words give by a command. The library takes a lone hyphen for a value; that it is none is
 /// judged behind the library's reading, which has used up the command.
-fn read_by<'a>(command: Command<'a>, words: &'a [&'a str]) -> Result<Given<'a>, LineError>
-    ensures { is_readable (app_of command.entry) ≡ true
+fn read_by<'a>(command: &mut Command<'a>, words: &'a [&'a str]) -> Result<Given<'a>, LineError>
+    ensures { is_readable (app_of command.old) ≡ true
         → IsUnless LineError.Memory result
-        (parsed (app_of command.entry) (map (λ w. w.now) words.entry.now)) }
+        (parsed (app_of command.old) (map (λ w. w.now) words.entry.now)) }
 {
-    let matches = command.try_get_matches_from(words)?;
+    let matches = command.try_get_matches_from_mut(words)?;
     if has_hyphen(words) {
         return Err(LineError::Usage);
     }
@@ -126,8 +126,8 @@ pub fn read<'a>(
     ensures { Reads name.entry.now (map argument_rule arguments.now)
         (map (λ w. w.now) words.entry.now) result }
 {
-    let command = command_of(alloc, name, arguments)?;
-    read_by(command, words)
+    let mut command = command_of(alloc, name, arguments)?;
+    read_by(&mut command, words)
 }
 
 impl<'a> Given<'a> {

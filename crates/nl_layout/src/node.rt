@@ -82,6 +82,14 @@ impl Node {
         write_slots(&self.slots, out);
     }
 
+    /// The numbers in the slots of a node's page, 0 where one names nothing.
+    pub fn slots_in_page(page: &Page) -> [VirtualNumber; SLOTS]
+        ensures slots { (s : ℕ) → s < 128 → numbered (slice_index result s) ≡ slot s page.now }
+        ensures count { length result ≡ 128 }
+    {
+        slots_in(page.bytes())
+    }
+
     /// What one slot of a node's page names.
     pub fn slot_in(page: &Page, at: usize) -> Option<VirtualNumber>
         requires { at < 128 }
@@ -121,6 +129,7 @@ fn write_slots(slots: &[VirtualNumber], out: &mut [u8])
 fn slots_in(bytes: &[u8]) -> [VirtualNumber; SLOTS]
     requires { length bytes.now ≡ 1024 }
     ensures slots { result ≡ slots_at 128 bytes.now }
+    ensures count { length result ≡ 128 }
     ensures spelled { slots_bytes result ≡ bytes.now }
     ensures fit { All (λ number. number < 2 ^ 64) result }
 {

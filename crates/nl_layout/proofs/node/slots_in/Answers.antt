@@ -28,6 +28,9 @@ small c i = let fits = c.type_inv.bytes i in omega arith
 pub returns-clause-slots : goal.returns-clause-slots
 returns-clause-slots c = all c
 
+pub returns-clause-count : goal.returns-clause-count
+returns-clause-count c = c.loop-s.invariant.room
+
 pub returns-clause-spelled : goal.returns-clause-spelled
 returns-clause-spelled c = ap slots_bytes (all c) ∙ slots_at-spelled 128 c.args.bytes.now c.requires (small c)
 
