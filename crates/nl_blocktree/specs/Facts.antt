@@ -1,6 +1,7 @@
 -- Facts about the definitions, for proofs of other crates.
 pub mod Chains
 pub mod Ended
+pub mod FewBirths
 pub mod Frames
 pub mod HeldPages
 pub mod LowOffsets

@@ -1,6 +1,7 @@
 pub mod Changed
 pub mod Numbering
 pub mod Putting
+pub mod Bounds
 pub mod Checkpoints
 pub mod FileShapes
 pub mod Listed

@@ -1,5 +1,5 @@
 //! The pen: what the writer of a volume holds, the device included.
-ghost use Rattle.std.specs.Prelude.{◌≡◌, ◌↔◌, ◌⊎◌, ◌<◌, ◌≤◌, ◌∷◌, [], IfErr, IfOk, IsErr, IsErrOf, IsTrue, OnErr, IsOkUnless, length};
+ghost use Rattle.std.specs.Prelude.{◌≡◌, ◌↔◌, ◌⊎◌, ◌<◌, ◌≤◌, ◌∷◌, [], false, IfErr, IfOk, IsErr, IsErrOf, IsTrue, OnErr, IsOkUnless, length};
 ghost use Rattle.std.specs.Option.{option_map};
 ghost use Rattle.nl_types.specs.Plain.Runs.{Run};
 ghost use Rattle.nl_types.specs.Plain.Rows.{kept_row};
@@ -24,7 +24,7 @@ use nl_commit::Commit;
 use nl_cpfile::Cpstat;
 use nl_dat::{Bdesc, Dat, DatEntry};
 use nl_device::Device;
-use nl_events::{NoNotes, Parts, is_same_file, is_same_tree};
+use nl_events::{NoNotes, Parts, Room, is_same_file, is_same_tree};
 use nl_protect::boundary;
 use nl_segwriter::LogSpace;
 use nl_sufile::{SegTable, SegmentCounts};
@@ -57,7 +57,10 @@ ghost use Rattle.nl_commit.specs.Tables.{blank_lists};
 impl<D: Device> Pen<D> {
     ghost use Rattle.nl_commit.specs.Layout.{IsFormatted, Layout};
     ghost use Rattle.nl_vstore.specs.Stores.{KeepsStored};
-    ghost use Rattle.nl_core.specs.PenImages.{CanBeClosed, IsPenImage};
+    ghost use Rattle.nl_core.specs.PenImages.{CanBeClosed, IsImageBeside, IsPenImage};
+    ghost use Rattle.std.specs.Prelude.{ℕ};
+    ghost use Rattle.nl_tree.specs.Weights.{IsNoLess};
+    ghost use Rattle.nl_events.specs.Rooms.{HasRoom, HasToWrite};
     ghost use Rattle.nl_core.specs.SameFiles.{HaveOneFile, HaveOneInode};
     ghost use Rattle.nl_core.specs.SameTrees.{HaveOneRoot, HaveOneTree};
 
@@ -185,8 +188,8 @@ impl<D: Device> Pen<D> {
         is_same_file(&parts.store, parts.tables.checkpoints(), old, new, path)
     }
 
-    /// Whether two kept checkpoints have one root, so that their trees are the same. It reads no block, and takes
-    /// no memory. It may answer no where the trees are the same too.
+    /// Whether two kept checkpoints have one root, so that their trees are the same. It reads no block, and
+    /// takes no memory. It may answer no where the trees are the same too.
     pub fn is_same_tree(&self, old: CheckpointNumber, new: CheckpointNumber) -> bool
         ensures exact { IsTrue result ↔ HaveOneRoot self.now old new }
         ensures same { IsTrue result → HaveOneTree self.now old new }
@@ -313,6 +316,42 @@ impl<D: Device> Pen<D> {
         ensures world { (w : World) → MeansWorld self.old w → MeansWorld self.new (record w { mounts = [] }) }
     {
         self.parts.give_all_back();
+    }
+
+    /// How many blocks the next checkpoint has to write, and how many it has room for: where these are fewer,
+    /// it is refused by `NoSpace`. It takes as much time and memory as the checkpoint without its writes:
+    /// what changed since the latest one. Refused by `Memory` alone.
+    pub fn room(&self) -> Result<Room, VolError>
+        ensures room { IfOk result (HasRoom self.now) }
+        ensures refused { IsOkUnless result VolError.Memory }
+    {
+        self.parts.room()
+    }
+
+    /// No fewer blocks than the next checkpoint has to write, as far as a `usize` goes: without a draft and
+    /// without memory. It looks at each inode that changed, but at none of its blocks or names. So whoever
+    /// writes asks for the room itself only where this is more than the segments have room for.
+    pub fn room_bound(&self) -> usize
+        ensures { (blocks : ℕ) → HasToWrite self.now blocks → IsNoLess blocks result }
+    {
+        self.parts.room_bound()
+    }
+
+    /// The image of a volume of which nothing is dirty, as it is once all mounts are given back. The mounts
+    /// stay, and what they show. It reads each used block once from the device, in order. Refused by
+    /// `Memory`, and by `Fault` where the device failed.
+    pub fn image_beside(&mut self) -> Result<Vec<u8>, VolError>
+        requires { self.old.lists.dirty ≡ false }
+        ensures image { IfOk result (λ bytes. IsImageBeside self.old bytes.items) }
+        ensures lists { self.new.lists ≡ self.old.lists }
+        ensures same { KeepsStored self.old.store self.new.store }
+        ensures counted { self.old.store.failures ≤ self.new.store.failures }
+        ensures fault { IsErrOf result VolError.Fault
+            → self.old.store.failures < self.new.store.failures }
+        ensures refused { IfErr result (λ e. (e ≡ VolError.Fault) ⊎ (e ≡ VolError.Memory)) }
+    {
+        self.parts.means_a_world();
+        image_of(&mut self.parts)
     }
 
     /// The image of a volume of which nothing is dirty and nothing mounted. It reads each used block once

@@ -6,6 +6,7 @@ pub mod CleanedPens
 pub mod CleaningEvents
 pub mod CountedPens
 pub mod ExpiredNumbers
+pub mod GivenBack
 pub mod States
 pub mod Keeping
 pub mod KeptLists

@@ -13,6 +13,7 @@ mod notes;
 mod parts;
 mod removing;
 mod resizing;
+mod room;
 mod same_files;
 mod same_trees;
 mod showing;
@@ -20,6 +21,7 @@ mod tables;
 
 pub use notes::{NoNotes, Notes};
 pub use parts::Parts;
+pub use room::Room;
 pub use same_files::is_same_file;
 pub use same_trees::is_same_tree;
 pub use tables::Tables;

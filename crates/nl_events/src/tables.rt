@@ -13,7 +13,7 @@ ghost use Rattle.nl_commit.specs.Notes as notes;
 use crate::expiry::expire;
 use nl_commit::{Draft, Mounted, Mounts, ShownPage, Whole};
 use nl_cpfile::{Checkpoint, Checkpoints, Cpstat};
-use nl_files::{ReadTree, settle};
+use nl_files::{ReadTree, most_births, settle};
 use nl_layout::Root;
 use nl_protect::needed;
 use nl_reclaim::Keeping;
@@ -56,6 +56,10 @@ impl Tables {
     ghost use Rattle.nl_events.specs.NeededBlocks.{AreEarlier, taken_out};
     ghost use Rattle.nl_commit.specs.Changes.{HasChanged};
     ghost use Rattle.nl_commit.specs.Draft.{CanBeDrafted, HasFewNames, HasNextNumber, IsDraftRefusal, IsNextDraft};
+    ghost use Rattle.nl_commit.specs.Layout.{layout_of};
+    ghost use Rattle.nl_tree.specs.Weights.{IsNoLess};
+    ghost use Rattle.nl_files.specs.Bounds.{most_births};
+    ghost use Rattle.nl_events.specs.Rooms.{HasToWrite};
     ghost use Rattle.nl_commit.specs.Means.{ReadsCopyOver, StepsWorldsOver, Means};
     ghost use Rattle.nl_commit.specs.Tables.{blank_lists};
     ghost use Rattle.nl_commit.specs.Volume.{IsTakenOut, IsExpired, IsTakenOutRange, is_held_at, latest_alone, latest_root, minor_checkpoint, published, with_change, with_checkpoint_mode, with_mount, without_mount, without_mounts};
@@ -430,6 +434,27 @@ impl Tables {
             },
             batch,
         })
+    }
+
+    /// How many blocks the next checkpoint has to write. It costs what its draft does, and keeps nothing of
+    /// that. Refused by `Memory` alone.
+    pub fn blocks_to_write<V: Vstore>(&self, alloc: Global, store: &V) -> Result<usize, VolError>
+        requires { CanBeDrafted (content_in (V.store store.now)) self.now.lists }
+        ensures blocks { IfOk result (HasToWrite (layout_of self.now.lists (V.store store.now))) }
+        ensures refused { IsOkUnless result VolError.Memory }
+    {
+        let root = self.checkpoints.latest().root;
+        let mut batch = Batch::new(alloc);
+        settle(alloc, store, &mut batch, root, &self.current)?;
+        Ok(batch.births().len())
+    }
+
+    /// No fewer blocks than the next checkpoint has to write. It looks at each inode that changed, and takes
+    /// no memory.
+    pub fn room_bound(&self) -> usize
+        ensures { IsNoLess (most_births self.now.lists.current.became) result }
+    {
+        most_births(&self.current)
     }
 
     /// Keeps the next checkpoint, whose blocks are written, and answers its number.

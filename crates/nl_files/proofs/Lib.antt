@@ -5,3 +5,5 @@ pub mod Storing
 pub mod DirectoryBlocks
 pub mod Directories
 pub mod CheckpointTrees
+pub mod FewWritten
+pub mod FewSettled

@@ -5,5 +5,6 @@ pub mod CheckpointTrees
 pub mod TreeLaws
 pub mod Staying
 pub mod OneSettling
+pub mod Bounds
 pub mod Facts
 pub mod Private

@@ -1,4 +1,5 @@
 //! What settling means for checkpoints, as contracts of functions that do nothing.
+ghost use Rattle.nl_files.specs.Bounds.{SettlingsAreFew};
 ghost use Rattle.nl_files.specs.Laws.{FirstCheckpointsAreSmall, FirstCheckpointsHold, LatestCheckpointsHold, RootsHoldOne, SettledCheckpointsFollow, SettledCheckpointsWriteWhatDiffers, SettledNumbersAreLowest};
 ghost use Rattle.nl_files.specs.OneSettling.{CleanTreesWriteNothing, SettlingsAreAlike};
 ghost use Rattle.nl_files.specs.Staying.{CheckpointsStay, KeptPagesAgree};
@@ -64,4 +65,10 @@ pub fn checkpoints_stay()
 pub fn settlings_are_alike()
     ensures alike { SettlingsAreAlike }
     ensures clean { CleanTreesWriteNothing }
+{}
+
+/// However a current tree is settled, no more blocks are written than its changes weigh, and the nodes of the
+/// file of inodes.
+pub fn settlings_are_few()
+    ensures { SettlingsAreFew }
 {}

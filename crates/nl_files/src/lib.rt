@@ -7,6 +7,8 @@ pub mod laws;
 mod plan;
 mod read_tree;
 mod settling;
+mod weighing;
 
 pub use read_tree::ReadTree;
 pub use settling::settle;
+pub use weighing::most_births;

@@ -4,3 +4,4 @@ pub mod UsedTests
 pub mod CleanCounts
 pub mod FollowedBlocks
 pub mod GrownCounts
+pub mod Room

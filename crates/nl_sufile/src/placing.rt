@@ -4,6 +4,8 @@ ghost use Rattle.nl_types.specs.Plain.Limits as limits;
 ghost use Rattle.nl_types.specs.declared.segment.Log.{Log};
 ghost use Rattle.nl_types.specs.Blocks.Placing.{GoOn, has_room};
 ghost use Rattle.nl_sufile.specs.Private.NextPlace.{IsNowhere, IsNextPlace};
+ghost use Rattle.nl_sufile.specs.Private.Room.{payload_in, payload_left};
+ghost use Rattle.nl_sufile.specs.Room.{HasRoomOn};
 ghost use Rattle.nl_sufile.specs.Table.{IsNoSpaceOrMemory};
 
 use crate::clean::FreeSegments;
@@ -66,4 +68,38 @@ pub fn place_on(
         });
     }
     Ok(logs)
+}
+
+// How many payload blocks go into so many blocks of a segment, behind the summary blocks of their logs.
+fn payload_in(blocks: u32) -> u32
+    requires { blocks ≤ limits.segment_block_limit }
+    ensures { result ≡ payload_in blocks }
+{
+    blocks - blocks.div_ceil(MAX_PAYLOAD + 1)
+}
+
+// How many payload blocks go into a segment from the place left on.
+fn payload_left(blocks: u32, left: Option<Position>) -> u32
+    requires many { blocks ≤ limits.segment_block_limit }
+    requires inside { IfSome left (λ place. place.block ≤ blocks) }
+    ensures value { result ≡ payload_left blocks left }
+    ensures few { result ≤ blocks }
+{
+    match left {
+        Some(place) => payload_in(blocks - place.block),
+        None => 0,
+    }
+}
+
+/// How many payload blocks logs take, from the place left on and in the free segments. It passes no segment,
+/// and takes no memory.
+pub fn room_on(blocks: u32, left: Option<Position>, free: FreeSegments<'_>) -> usize
+    requires few { 2 ≤ blocks }
+    requires many { blocks ≤ limits.segment_block_limit }
+    requires inside { IfSome left (λ place. place.block ≤ blocks) }
+    ensures { HasRoomOn blocks left free.entry result }
+{
+    let in_active = payload_left(blocks, left) as usize;
+    let in_each = payload_in(blocks) as usize;
+    in_active + free.len() * in_each
 }

@@ -5,10 +5,11 @@ ghost use Rattle.nl_types.specs.declared.segment.SegmentState.TheVariants.{Activ
 ghost use Rattle.nl_types.specs.Plain.Limits.{IsGeometry};
 ghost use Rattle.nl_types.specs.Blocks.Segments.{IsUsed, active_place, clean_segments, clean_info, free_segments, grown_to, info_of, lowest_clean, none_active, with_active, with_clean, with_error};
 ghost use Rattle.nl_types.specs.Blocks.Placing.{LogsFit, LacksSpace, end_of, with_log};
+ghost use Rattle.nl_sufile.specs.Room.{HasRoomFor};
 ghost use Rattle.nl_sufile.specs.Table.{IsSegTable, IsActiveIn, IsNoSpaceOrMemory, all_clean};
 
 use crate::clean::{CleanSegments, FreeSegments};
-use crate::placing::place_on;
+use crate::placing::{place_on, room_on};
 use nl_types::{
     BlockNumber, Geometry, Items, Log, Position, Segment, SegmentInfo, SegmentState, VolError, laws,
 };
@@ -176,6 +177,16 @@ impl SegTable {
         let left = self.active_place();
         let free = self.free_segments(reserve);
         place_on(alloc, self.blocks, left, free, n)
+    }
+
+    /// How many payload blocks there is room for: `place` finds logs for so many, and for no more. It passes
+    /// no segment, and takes no memory.
+    pub fn room(&self, reserve: bool) -> usize
+        ensures { HasRoomFor self.now reserve result }
+    {
+        let left = self.active_place();
+        let free = self.free_segments(reserve);
+        room_on(self.blocks, left, free)
     }
 
     /// Takes the lowest clean segment, which alone is active then, if one is clean. It has no logs yet.

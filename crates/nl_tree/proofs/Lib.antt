@@ -29,3 +29,4 @@ pub mod PlacesFound
 pub mod CallsJudged
 pub mod CallsStand
 pub mod Answered
+pub mod Weights

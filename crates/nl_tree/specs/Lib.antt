@@ -13,5 +13,6 @@ pub mod TreeMeaning
 pub mod CurrentTrees
 pub mod FirstTree
 pub mod Changing
+pub mod Weights
 pub mod Facts
 pub mod Private

@@ -22,6 +22,7 @@ mod renaming;
 mod showing;
 mod tree_read;
 mod view;
+mod weighing;
 mod writing;
 
 pub use current::CurrentTree;

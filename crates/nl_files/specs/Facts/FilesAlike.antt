@@ -24,12 +24,12 @@ use Rattle.nl_files.specs.Facts.Steps.{births-added}
 abbrev pub Begins : List Birth → List Birth → Type 0
 Begins before all = (more : List Birth) × (all ≡ before ++ more)
 
-begins-through : (a b c : List Birth) → Begins a b → Begins b c → Begins a c
+pub begins-through : (a b c : List Birth) → Begins a b → Begins b c → Begins a c
 begins-through a b c p q =
     (p.0 ++ q.0, q.1 ∙ (ap (λ (bs : List Birth). bs ++ q.0) p.1 ∙ append_assoc a p.0 q.0))
 
 -- a file that is in a batch stays to its end
-stays-on : (content : Content) (before all : List Birth) (root : Root) → Begins before all
+pub stays-on : (content : Content) (before all : List Birth) (root : Root) → Begins before all
     → IsUnused content all → IsSound (with_births before (pages_of content)) root →
     KeepsFile (with_births before (pages_of content)) (with_births all (pages_of content)) root
 stays-on content before all root begins unused sound =
@@ -143,11 +143,11 @@ front-once (file ∷ files) last once = (absent files file.inode once.0, front-o
         let none = or_false (i == x.inode) (is_one_of (inodes_of (xs ++ last ∷ [])) i) h in
         rw none.0 (absent xs i none.1)
 
-root-here : (x : FileChange) (xs : List FileChange) (roots : ℕ → Root) (i : ℕ) → i ≡ x.inode
+pub root-here : (x : FileChange) (xs : List FileChange) (roots : ℕ → Root) (i : ℕ) → i ≡ x.inode
     → roots_after (x ∷ xs) roots i ≡ x.root
 root-here x xs roots i is = rw (eq-eqb i x.inode is) refl
 
-root-later : (x : FileChange) (xs : List FileChange) (roots : ℕ → Root) (i : ℕ) → (i ≡ x.inode → ⊥)
+pub root-later : (x : FileChange) (xs : List FileChange) (roots : ℕ → Root) (i : ℕ) → (i ≡ x.inode → ⊥)
     → roots_after (x ∷ xs) roots i ≡ roots_after xs roots i
 root-later x xs roots i not = rw (ne_eqb i x.inode not) refl
 

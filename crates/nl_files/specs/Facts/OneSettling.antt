@@ -31,10 +31,10 @@ module _ (content : Content) (root new : Root) (became : List (ℕ × Became)) (
   abbrev old : ℕ → Root
   old = roots_at (pages_of content) root
 
-  files_put : ArePut content old no_changes s.files
+  pub files_put : ArePut content old no_changes s.files
   files_put = (last-put content old no_changes s.files s.inode_file s.put).0
 
-  inodes_put : PutsAll content 6 (old 6) new s.inode_file.changes (batch_after s.files no_changes) batch
+  pub inodes_put : PutsAll content 6 (old 6) new s.inode_file.changes (batch_after s.files no_changes) batch
   inodes_put =
       subst
       (λ (n : ℕ). PutsAll content n (old n) new s.inode_file.changes (batch_after s.files no_changes) batch)
@@ -49,14 +49,14 @@ module _ (content : Content) (root new : Root) (became : List (ℕ × Became)) (
       (sym s.batch_is)
       (last-put content old no_changes s.files s.inode_file s.put).1))
 
-  files_once : NoneTwice (inodes_of s.files)
+  pub files_once : NoneTwice (inodes_of s.files)
   files_once = front-once s.files s.inode_file s.once
 
-  not_inodes : (i : ℕ) → is_one_of (inodes_of s.files) i ≡ true → i ≡ 6 → ⊥
+  pub not_inodes : (i : ℕ) → is_one_of (inodes_of s.files) i ≡ true → i ≡ 6 → ⊥
   not_inodes i h e = apart-last s.files s.inode_file s.once i h (e ∙ sym s.is_inode_file)
 
   -- the root that an inode has in the end
-  root_after : (i : ℕ) → (i ≡ 6 → ⊥)
+  pub root_after : (i : ℕ) → (i ≡ 6 → ⊥)
       → roots_after s.files old i ≡ inode_root (inode_at (pages_after content batch) new i)
   root_after i not =
       sym (past-last s.files s.inode_file old i (λ e. not (e ∙ s.is_inode_file)))

@@ -3,7 +3,7 @@ use Rattle.nl_commit.specs.CleaningEvents.{kept_numbers}
 use Rattle.nl_commit.specs.Layout.{IsPen, layout_of}
 use Rattle.nl_commit.specs.Volume.{Lists}
 use Rattle.nl_events.specs.Facts.CountedPens.{counts-over}
-use Rattle.nl_events.proofs.GivenBack.{pen-given_back}
+use Rattle.nl_events.specs.Facts.GivenBack.{pen-given_back}
 use Rattle.nl_events.proofs.parts.Parts.give_all_back.Goals as goal
 
 pub invariant_of-self : goal.invariant_of-self
