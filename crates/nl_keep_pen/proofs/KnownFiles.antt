@@ -1,10 +1,11 @@
 -- What inodes tell of the files of two checkpoints.
-use Rattle.std.proofs.Common.{◌≡◌, ℕ, Bool, true, false, List, Option, None, Some, Ok, refl, sym, ap, ◌∙◌}
+use Rattle.std.proofs.Common.{◌≡◌, ◌⊎◌, ℕ, Bool, true, false, List, Option, None, Some, Ok, Err, refl, sym, ap, ◌∙◌, subst, inl, inr}
 use Rattle.std.specs.Prelude.{◌↔◌, IsTrue}
 use Rattle.std.specs.Option.{ok_or, option_map}
 use mathlib.Core.HLevel.{⊥_prop}
 use Rattle.std.proofs.Math.Logic.{∥∥₁_elim}
 use Rattle.std.proofs.lemmas.Option.{same_Some}
+use Rattle.nl_types.specs.declared.error.VolError.{VolError}
 use Rattle.nl_types.specs.declared.error.VolError.TheVariants.{NoCheckpoint}
 use Rattle.nl_types.specs.declared.reply.Object.TheVariants.{File}
 use Rattle.nl_types.specs.declared.row.Row.{Row}
@@ -17,8 +18,10 @@ use Rattle.nl_commit.specs.Layout.{IsPen, Layout, MeansWorld}
 use Rattle.nl_core.specs.SameFiles.{HasFile, HaveOneInode}
 use Rattle.nl_core.specs.Facts.EqualInodes.{have_one_file}
 use Rattle.nl_core.specs.Facts.SameFiles.{one_inode_is_decided}
+use Rattle.nl_folders.specs.declared.folder.FolderError.{FolderError}
 use Rattle.nl_folders.specs.Differences.{Differences, differences}
 use Rattle.nl_folders.specs.Passing.{AreSameFiles}
+use Rattle.nl_folders.specs.Refusals.{RefusesTree}
 use Rattle.nl_keep.specs.Shown.{ShowsKept}
 use Rattle.nl_keep.specs.Stored.{IsKept, KeepsTree}
 use Rattle.nl_keep.specs.Volumes.{Meaning}
@@ -88,7 +91,42 @@ told_is_kept w n row is =
     by None at told = cc
     by (Some copy) at told = (copy, at)
 
+-- and what isn't told is of none
+pub told_is_missing : (w : World) (n : ℕ) (e : VolError) → Err e ≡ kept_row n (rows w) → copy_at w n ≡ None
+told_is_missing w n e is =
+    by (copy_at w n) refl
+    (is ∙ ap (λ (o : Option Row). ok_or o NoCheckpoint) (find_row-copies w.copies n))
+  where
+    by : (o : Option Copy) → copy_at w n ≡ o
+        → Err e ≡ ok_or (option_map (λ copy. copy_row (n, copy)) o) NoCheckpoint
+        → copy_at w n ≡ None
+    by None at told = at
+    by (Some copy) at told = cc
+
+-- of two that are kept none is missing
+pub none_missing : (w : World) (old new : ℕ) (one other : Tree) → KeepsTree old one w → KeepsTree new other w
+    → (copy_at w old ≡ None) ⊎ (copy_at w new ≡ None) → ⊥
+none_missing w old new one other before after (inl missing) =
+    let no : ◌≡◌ {A = Option Copy} (Some before.copy) None = sym before.kept ∙ missing in cc
+none_missing w old new one other before after (inr missing) =
+    let no : ◌≡◌ {A = Option Copy} (Some after.copy) None = sym after.kept ∙ missing in cc
+
 -- a tree that is kept is shown
+shows_kept : (n : ℕ) (w : World) (Means : Meaning) (tree : Tree) → Means w → IsWorld w → KeepsTree n tree w
+    → IsTree tree × ShowsKept Means n tree
+shows_kept n w Means tree means world keeps =
+    let is_tree = subst IsTree keeps.has (world.trees n keeps.copy keeps.kept) in (
+      is_tree,
+      record {
+        world = w;
+        means = means;
+        copy = keeps.copy;
+        kept = keeps.kept;
+        has = keeps.has;
+        is_tree = is_tree;
+      },
+    )
+
 shown : (n : ℕ) (w : World) (Means : Meaning) → Means w → IsWorld w → (kept : IsKept n w)
     → IsTree kept.0.tree × ShowsKept Means n kept.0.tree
 shown n w Means means world kept =
@@ -117,3 +155,15 @@ differ_by l old new all known w means before after same told =
       exact = told before.0.tree after.0.tree one.0 other.0 one.1 other.1
           (same before.0.tree after.0.tree keeps_one keeps_other);
     }
+
+-- and a refusal is of one of the trees
+pub differ_refused : (l : Layout) (old new : ℕ) (e : FolderError) (known : Path → Bool) (w : World)
+    (one other : Tree) → MeansWorld l w → KeepsTree old one w → KeepsTree new other w
+    → AreSameFiles known one other
+    → ((x y : Tree) → IsTree x → IsTree y → ShowsKept (MeansWorld l) old x → ShowsKept (MeansWorld l) new y
+    → AreSameFiles known x y → RefusesTree x e ⊎ RefusesTree y e)
+    → RefusesTree one e ⊎ RefusesTree other e
+differ_refused l old new e known w one other means before after same told =
+    let first = shows_kept old w (MeansWorld l) one means means.world before in
+    let second = shows_kept new w (MeansWorld l) other means means.world after in
+    told one other first.0 second.0 first.1 second.1 same

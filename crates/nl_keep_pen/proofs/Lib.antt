@@ -2,3 +2,7 @@ pub mod KnownFiles
 pub mod Images
 pub mod Runs
 pub mod UnreadAnswers
+pub mod PinlessTrees
+pub mod FilledTrees
+pub mod Changes
+pub mod ChangeLists

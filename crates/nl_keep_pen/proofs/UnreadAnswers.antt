@@ -25,7 +25,7 @@ use Rattle.nl_keep_pen.specs.UnreadTrees.{ShowsUnread}
 
 -- ---- names
 
-last_below : (n : Name) (o : Option (Path × Name))
+pub last_below : (n : Name) (o : Option (Path × Name))
     → last_name (option_map (λ (p : Path × Name). (n ∷ p.0, p.1)) o) ≡ last_name o
 last_below n None = refl
 last_below n (Some p) = refl

@@ -1,5 +1,6 @@
 pub mod Compared
 pub mod Folders
+pub mod History
 pub mod Images
 pub mod Runs
 pub mod UnreadTrees

@@ -4,6 +4,7 @@ ghost use Rattle.nl_types.specs.Plain.Trees.{Tree};
 ghost use Rattle.nl_types.specs.Plain.Worlds.{World, copy_at};
 ghost use Rattle.nl_commit.specs.Layout.{MeansWorld};
 ghost use Rattle.nl_folders.specs.Passing.{AreSameFiles};
+ghost use Rattle.nl_folders.specs.Refusals.{RefusesTree};
 ghost use Rattle.nl_keep.specs.Stored.{IsKept, KeepsTree};
 ghost use Rattle.nl_keep_pen.specs.Compared.{DifferBy, KnownFiles, KnownFiles-prop};
 
@@ -46,9 +47,14 @@ impl<D: Device> Knowledge for SameFiles<'_, D> {
 }
 
 /// Judges whether a checkpoint is kept, without memory. Refused by `NoCheckpoint` alone.
-fn judge_kept<D: Device>(volume: &PenVolume<D>, number: CheckpointNumber) -> Result<(), FolderError>
+pub(crate) fn judge_kept<D: Device>(
+    volume: &PenVolume<D>,
+    number: CheckpointNumber,
+) -> Result<(), FolderError>
     ensures kept { OnOk result ((w : World) → MeansWorld volume.now.pen w → IsKept number w) }
     ensures refused { IfErr result (λ e. e ≡ FolderError.Refused VolError.NoCheckpoint) }
+    ensures missing { IfErr result (λ e. (w : World) → MeansWorld volume.now.pen w
+        → copy_at w number ≡ None) }
 {
     match volume.pen.cpinfo(number) {
         Ok(_) => Ok(()),
@@ -65,6 +71,8 @@ fn judge_both<D: Device>(
     ensures old { OnOk result ((w : World) → MeansWorld volume.now.pen w → IsKept old w) }
     ensures new { OnOk result ((w : World) → MeansWorld volume.now.pen w → IsKept new w) }
     ensures refused { IfErr result (λ e. e ≡ FolderError.Refused VolError.NoCheckpoint) }
+    ensures missing { IfErr result (λ e. (w : World) → MeansWorld volume.now.pen w
+        → (copy_at w old ≡ None) ⊎ (copy_at w new ≡ None)) }
 {
     judge_kept(volume, old)?;
     judge_kept(volume, new)
@@ -86,6 +94,8 @@ pub fn checkpoint_differences<D: Device>(
     ensures missing { (w : World) → MeansWorld volume.now.pen w
         → (copy_at w old ≡ None) ⊎ (copy_at w new ≡ None)
         → result ≡ Err (FolderError.Refused VolError.NoCheckpoint) }
+    ensures refused { IfErr result (λ e. (w : World) (one other : Tree) → MeansWorld volume.now.pen w
+        → KeepsTree old one w → KeepsTree new other w → RefusesTree one e ⊎ RefusesTree other e) }
 {
     judge_both(volume, old, new)?;
     folder_differences(

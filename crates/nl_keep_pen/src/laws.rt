@@ -1,5 +1,6 @@
 //! What backups, restores and forgetting come to over many runs, as contracts of functions that do nothing.
 ghost use Rattle.nl_keep_pen.specs.Folders.{FoldersComeBack};
+ghost use Rattle.nl_keep_pen.specs.History.{ChangesAreOne};
 ghost use Rattle.nl_keep_pen.specs.Runs.{BackupsComeBack, BackupsKeepThrough, ForgetsKeepThrough, ImagesHaveThePresentMark};
 
 /// The image of a closed pen has the present mark.
@@ -34,3 +35,8 @@ pub fn folders_come_back()
     backups_come_back();
     nl_manifests::laws::trees_show_one();
 }
+
+/// Of a list of checkpoints there is one list of those that show a change.
+pub fn changes_are_one()
+    ensures { ChangesAreOne }
+{}

@@ -2,12 +2,14 @@
 #![tactic(auto)]
 
 mod comparing;
+mod history;
 mod keeping;
 pub mod laws;
 mod tidying;
 mod unread;
 
 pub use comparing::{SameFiles, checkpoint_differences};
+pub use history::changed_at;
 pub use keeping::{backup_image, forget_image, format_image, restore_image};
 use nl_core::Pen;
 use nl_device::Device;

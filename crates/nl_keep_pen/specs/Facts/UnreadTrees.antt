@@ -16,11 +16,11 @@ use Rattle.nl_manifests.specs.Unread.{unread, unread_at, unread_object}
 
 -- ---- entries that are made others at their paths
 
-module _ (f : Path → Object → Object) where
-  abbrev all_made : Tree → Tree
+module _ {X : Type 0} (f : Path → X → X) where
+  abbrev pub all_made : List (Path × X) → List (Path × X)
   all_made es = map (λ e. (e.0, f e.0 e.1)) es
 
-  found_made : (es : Tree) (p : Path)
+  pub found_made : (es : List (Path × X)) (p : Path)
       → find path_cmp p (all_made es) ≡ option_map (f p) (find path_cmp p es)
   found_made [] p = refl
   found_made (e ∷ es) p =
@@ -31,11 +31,12 @@ module _ (f : Path → Object → Object) where
         | false ↦ λ _. found_made es p
       ] refl
 
-  below_made : (p : Path) (es : Tree) → below_all path_cmp p (all_made es) ≡ below_all path_cmp p es
+  below_made : (p : Path) (es : List (Path × X))
+      → below_all path_cmp p (all_made es) ≡ below_all path_cmp p es
   below_made p [] = refl
   below_made p (e ∷ es) = ap (λ t. is_lt (path_cmp p e.0) && t) (below_made p es)
 
-  sorted_made : (es : Tree) → is_sorted path_cmp (all_made es) ≡ is_sorted path_cmp es
+  pub sorted_made : (es : List (Path × X)) → is_sorted path_cmp (all_made es) ≡ is_sorted path_cmp es
   sorted_made [] = refl
   sorted_made (e ∷ es) = λ i. below_made e.0 es i && sorted_made es i
 
