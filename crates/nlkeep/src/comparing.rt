@@ -115,21 +115,3 @@ pub fn tell_checkpoint_differences<W: Write>(
     }
     Ok(count)
 }
-
-/// Whether two kept checkpoints differ at or below a path.
-pub fn differs_below(
-    alloc: Global,
-    view: &View<'_>,
-    pair: Pair,
-    top: &[Name],
-) -> Result<bool, Fault> {
-    if view.volume.pen.is_same_tree(pair.old, pair.new) {
-        return Ok(false);
-    }
-    let compared = compare_pair(alloc, view, pair)?;
-    let all = compared.all.as_slice();
-    Ok(
-        all.iter()
-            .any(|(path, _)| begins_with(path.as_slice(), top)),
-    )
-}

@@ -1,33 +1,39 @@
 //! `history` and `find`: where in the history of a volume something stood.
 use crate::asking::{Clock, Outcome};
 use crate::checkpoints::is_minor;
-use crate::comparing::{Pair, differs_below};
-use crate::faults::{Fault, fault_at};
+use crate::faults::{Fault, fault_at, tree_fault};
 use crate::json::{StandingObject, object};
 use crate::moments::shown;
 use crate::parts::path_said;
 use crate::printing::Printer;
 use crate::views::View;
 use nl_folders::Name;
-use nl_types::{CheckpointNumber, Row};
-use std::alloc::Global;
+use nl_keep_pen::changed_at;
+use nl_types::{CheckpointNumber, Items, Row};
+use std::alloc::{AllocError, Global};
 use std::io::Write;
 
-/// Whether what stands at a path of a checkpoint is other than at the one before, or the first thing there.
-fn is_changed(
+/// The checkpoints that aren't minor.
+fn numbers_of(alloc: Global, rows: &[Row]) -> Result<Items<CheckpointNumber>, AllocError> {
+    let mut numbers = Items::new(alloc);
+    for row in rows {
+        if !is_minor(row) {
+            numbers.push(row.number)?;
+        }
+    }
+    Ok(numbers)
+}
+
+/// Those of which something at or below a path is other than at the one before.
+fn changes(
     alloc: Global,
     view: &View<'_>,
-    before: Option<CheckpointNumber>,
-    number: CheckpointNumber,
     path: &[Name],
-) -> Result<bool, Fault> {
-    match before {
-        Some(old) => differs_below(alloc, view, Pair { old, new: number }, path),
-        None => {
-            let shown = view.shown(alloc, number)?;
-            let seen = view.seen(alloc, number, shown.tree.as_slice(), path)?;
-            Ok(seen.is_some())
-        }
+) -> Result<Items<CheckpointNumber>, Fault> {
+    let numbers = numbers_of(alloc, view.rows.as_slice())?;
+    match changed_at(alloc, view.volume, numbers.as_slice(), path) {
+        Ok(changes) => Ok(changes),
+        Err(error) => Err(tree_fault(alloc, view.path, error)),
     }
 }
 
@@ -64,21 +70,16 @@ pub fn history<W: Write>(
     printer: &mut Printer<W>,
 ) -> Result<Outcome, Fault> {
     let path = path_said(alloc, word)?;
-    let mut before = None;
-    let mut was_there = false;
+    let changes = changes(alloc, view, path.as_slice())?;
     for row in view.rows.as_slice() {
-        if !is_minor(row) {
-            if is_changed(alloc, view, before, row.number, path.as_slice())? {
-                tell_standing(alloc, view, row, path.as_slice(), clock, is_json, printer)?;
-                was_there = true;
-            }
-            before = Some(row.number);
+        if changes.as_slice().contains(&row.number) {
+            tell_standing(alloc, view, row, path.as_slice(), clock, is_json, printer)?;
         }
     }
-    if was_there {
-        Ok(Outcome::Done)
-    } else {
+    if changes.is_empty() {
         Err(fault_at(alloc, word, "nothing was ever there"))
+    } else {
+        Ok(Outcome::Done)
     }
 }
 

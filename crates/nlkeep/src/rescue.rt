@@ -9,7 +9,6 @@ use crate::ruins::Ruin;
 use crate::sections::Sections;
 use clap::ArgMatches;
 use nl_folders::Path;
-use nl_host::Reason;
 use nl_layout::CheckpointEntry;
 use nl_manifests::{Opened, open};
 use nl_types::{CheckpointNumber, Items, VolError};
@@ -17,17 +16,17 @@ use std::alloc::{AllocError, Global};
 use std::fs;
 use std::io::Write;
 
-/// The paths of what is lost of a checkpoint, below the folder of all of them.
-fn below_number(
+/// Paths of a checkpoint, each with what is told of it, below the folder of all of them.
+fn below_number<T: Copy>(
     alloc: Global,
     number: CheckpointNumber,
-    lost: Vec<(Path, Reason)>,
-) -> Result<Vec<(Path, Reason)>, AllocError> {
-    let mut below = Vec::with_capacity(alloc, lost.len())?;
-    for (mut path, reason) in lost {
+    told: Vec<(Path, T)>,
+) -> Result<Vec<(Path, T)>, AllocError> {
+    let mut below = Vec::with_capacity(alloc, told.len())?;
+    for (mut path, why) in told {
         let name = format!(in alloc; "{}", number.get())?;
         path.push_front(Items::from_slice(alloc, name.as_bytes())?)?;
-        below.push((path, reason))?;
+        below.push((path, why))?;
     }
     Ok(below)
 }
@@ -54,8 +53,10 @@ impl Rescuing<'_> {
         }
         let lost = below_number(alloc, entry.number, ruin.lost)?;
         tell_paths_left_out(self.rt, lost.as_slice());
-        let opened = open(alloc, ruin.tree.as_slice())?;
-        Ok(Some((opened, lost.is_empty())))
+        let Opened { tree, refused } = open(alloc, ruin.tree.as_slice())?;
+        let refused = below_number(alloc, entry.number, refused.into_vec())?;
+        let refused = Items::from_vec(refused);
+        Ok(Some((Opened { tree, refused }, lost.is_empty())))
     }
 
     /// Lays a tree out in a new folder of a checkpoint. Answers whether all of it is there.

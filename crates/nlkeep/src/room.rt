@@ -4,6 +4,7 @@ ghost use Rattle.nl_commit.specs.Layout.{MeansWorld};
 ghost use Rattle.nl_keep.specs.Lasting.{KeepsOwn};
 ghost use Rattle.nl_keep.specs.Volumes.{LeadsTo};
 
+use crate::capacity::most_segments;
 use crate::rounds::Round;
 use nl_core::Pen;
 use nl_device::Device;
@@ -11,7 +12,6 @@ use nl_folders::{Path, all_differences, find_in};
 use nl_keep::laws;
 use nl_keep_pen::{PenVolume, Preparing, Tidying};
 use nl_sufile::Sustat;
-use nl_types::limits::SEGMENT_LIMIT;
 use nl_types::{BLOCK_SIZE, Event, MAX_PAYLOAD, Object, Reply, VolError};
 use std::alloc::{AllocError, Global};
 
@@ -126,6 +126,17 @@ fn segments_for(blocks: u64, segment_blocks: u64) -> u64 {
         .saturating_add(SPARE)
 }
 
+/// How room is made for a tree.
+#[derive(Clone, Copy, PartialEq, Eq)]
+pub enum Effort {
+    /// By what is to be written, as it is reckoned.
+    Reckoned,
+    /// There was no room: a round of cleaning comes first, and the volume grows by a quarter at least.
+    Greater,
+    /// There was none again: the volume becomes as great as it may be.
+    Greatest,
+}
+
 /// Sees to it that there is room for a tree, before it is stored.
 #[derive(Clone, Copy)]
 pub struct Room<'t> {
@@ -134,8 +145,7 @@ pub struct Room<'t> {
     moment: u64,
     /// The most bytes that the volume may have.
     most: u64,
-    /// Whether it was tried before, and there was no room.
-    is_second: bool,
+    pub effort: Effort,
     /// How many bytes the volume had, and what it has where it was grown.
     pub grown: Option<(u64, u64)>,
 }
@@ -147,29 +157,25 @@ impl<'t> Room<'t> {
             wanted,
             moment,
             most,
-            is_second: false,
+            effort: Effort::Reckoned,
             grown: None,
         }
     }
 
-    /// The next time a round comes first, and then more room.
-    pub fn try_again(&mut self) {
-        self.is_second = true;
-    }
-
-    /// How many segments the volume is to have.
-    fn wanted_segments(&self, stat: Sustat, segment_bytes: u64, lacking: u64) -> u64 {
+    /// How many segments the volume is to have, where it may have so many.
+    fn wanted_segments(&self, stat: Sustat, segment_bytes: u64, lacking: u64, most: u64) -> u64 {
         let base = match self.grown {
             Some((_, grown)) => grown / segment_bytes.max(1),
             None => stat.segments as u64,
         };
-        if lacking == 0 && !self.is_second {
-            return stat.segments as u64;
+        match self.effort {
+            Effort::Reckoned if lacking == 0 => stat.segments as u64,
+            Effort::Reckoned | Effort::Greater => {
+                let more = lacking.max(base / 4).max(1);
+                base.saturating_add(more).min(most)
+            }
+            Effort::Greatest => most,
         }
-        let more = lacking.max(base / 4).max(1);
-        base.saturating_add(more)
-            .min(self.most / segment_bytes.max(1))
-            .min(u64::from(SEGMENT_LIMIT))
     }
 
     /// Grows the volume, where it isn't as great already.
@@ -205,7 +211,7 @@ impl<'t> Room<'t> {
         ensures { OnOk result (LeadsTo KeepsOwn
             (MeansWorld volume.old.pen) (MeansWorld volume.new.pen)) }
     {
-        if !self.is_second {
+        if self.effort == Effort::Reckoned {
             return Ok(());
         }
         let mut round = Round {
@@ -224,11 +230,13 @@ impl<'t> Room<'t> {
         ensures { OnOk result (LeadsTo KeepsOwn (MeansWorld pen.old) (MeansWorld pen.new)) }
     {
         let stat = pen.segments().sustat();
+        let most_segments = u64::from(most_segments(pen.segments().blocks()));
         let blocks = u64::from(pen.segments().blocks());
         let written = blocks_between(self.alloc, earlier, self.wanted)?;
         let lacking = segments_for(written, blocks).saturating_sub(stat.clean as u64);
         let segment_bytes = blocks.saturating_mul(BLOCK_SIZE as u64);
-        let segments = self.wanted_segments(stat, segment_bytes, lacking);
+        let most = most_segments.min(self.most / segment_bytes.max(1));
+        let segments = self.wanted_segments(stat, segment_bytes, lacking, most);
         self.grow(pen, segments, segment_bytes)
     }
 }

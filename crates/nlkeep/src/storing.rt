@@ -4,7 +4,7 @@ use crate::comparing::tell_differences;
 use crate::faults::{Fault, fault_at, volume_fault};
 use crate::images::{device_for, open_image, read_image, save_image};
 use crate::printing::Printer;
-use crate::room::Room;
+use crate::room::{Effort, Room};
 use crate::sizes::size_shown;
 use crate::views::{View, pins_file};
 use nl_device::MemDevice;
@@ -123,14 +123,16 @@ fn attempt(
     }
 }
 
-/// Stores a tree in the volume of an image. Where there is no room, it is tried once more behind a round of
-/// cleaning, in a greater volume.
+/// Stores a tree in the volume of an image. Where there is no room, it is tried again behind a round of
+/// cleaning in a greater volume, and then in the greatest.
 pub fn store_in(alloc: Global, path: &str, image: &[u8], wanted: &Wanted) -> Result<Stores, Fault> {
     let mut room = Room::new(alloc, wanted.tree.as_slice(), wanted.moment, wanted.most);
     let mut kept = attempt(alloc, path, image, wanted, &mut room)?;
-    if matches!(kept, Kept::NoSpace) {
-        room.try_again();
-        kept = attempt(alloc, path, image, wanted, &mut room)?;
+    for effort in [Effort::Greater, Effort::Greatest] {
+        if matches!(kept, Kept::NoSpace) {
+            room.effort = effort;
+            kept = attempt(alloc, path, image, wanted, &mut room)?;
+        }
     }
     match kept {
         Kept::Stored(stored, next) => Ok(Stores {
