@@ -4,8 +4,8 @@ ghost use Rattle.std.specs.Prelude.{◌≡◌};
 
 use crate::backup::{Volume, shared};
 use nl_mounts::{
-    CheckpointNumber, Event, Items, ListOptions, Mode, Mount, Opened, Port, Row, Standing,
-    VolError, Volumes,
+    Answer, Ask, CheckpointNumber, Event, Items, ListOptions, Mode, Mount, Opened, Port, Row,
+    Standing, Stat, VolError, Volumes,
 };
 use std::alloc::Global;
 use std::marker::Brand;
@@ -117,6 +117,14 @@ fn finds<J: Volumes>(port: &mut Port<J>, mount: &Mount<J>) -> bool {
     read && into == [b'h', b'i', b'!', b'?'] && port.standing(mount) == Standing::Mounted
 }
 
+/// Whether a port lists both snapshots, and finds the file's size in one without its mount.
+fn sees<J: Volumes>(alloc: Global, port: &mut Port<J>) -> Result<bool, VolError> {
+    let rows = port.checkpoints(alloc, &all())?;
+    let path = Items::from_slice(alloc, b"/g")?;
+    let told = port.read_at(alloc, number(5), &Ask::Stat { path });
+    Ok(rows.len() == 2 && matches!(told, Ok(Answer::Stat(Stat::File(4)))))
+}
+
 /// Whether calls answer as is due, and a port finds the file through a mount, which comes with it.
 fn answer_and_mount<J: Volumes, R: Wait>(
     rt: &R,
@@ -133,7 +141,7 @@ fn answer_and_mount<J: Volumes, R: Wait>(
     match mount_told(rt, volume, port) {
         Err(refusal) => Err(refusal),
         Ok(mount) => {
-            let found = finds(port, &mount);
+            let found = finds(port, &mount) && sees(alloc, port) == Ok(true);
             Ok((answered && found, mount))
         }
     }

@@ -8,8 +8,4 @@ mod backup;
 #[cfg(test)]
 mod calls;
 #[cfg(test)]
-mod cleaning;
-#[cfg(test)]
 mod many_reads;
-#[cfg(test)]
-mod two_volumes;
