@@ -98,7 +98,8 @@ def random_session(nlvol, seed, steps, due):
         elif turn == 6:
             alike(lambda: v.rmdir(path), lambda: model.remove(path, True), what, due)
         elif turn == 7:
-            snapshot = draw.random() < 0.5
+            snapshot, room, above = draw.random() < 0.5, v.room(), v.room(exact=False)
+            due((room.blocks <= room.free, room.blocks <= above.blocks, above.free), (True, True, room.free), what)
             due(v.mkcp(snapshot, moment), model.mkcp(snapshot), what)
         elif turn == 8:
             number, snapshot = draw.choice([*model.kept]), draw.random() < 0.5

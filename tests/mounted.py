@@ -1,8 +1,9 @@
-"""Rows of tests/library on a mount: real programs, checkpoints, what outlives a mount, room, and random calls
-beside a plain folder."""
+"""Rows of tests/library on a mount: real programs, checkpoints, what outlives a mount, room, cleaning by a
+configuration, and random calls beside a plain folder."""
 
 import contextlib
 import errno
+import hashlib
 import os
 import random
 import shutil
@@ -45,6 +46,23 @@ class Mount:
     def snapshot(self):
         os.mkdir(self.at(".checkpoints", "now"))
         return self.numbers()[-1]
+
+    def sync(self):
+        """Makes a checkpoint, and saves it."""
+        at = os.open(self.top, os.O_RDONLY)
+        os.fsync(at)
+        os.close(at)
+
+    def forget(self, number):
+        """Makes a snapshot plain, and removes it."""
+        os.setxattr(self.at(".checkpoints", str(number)), "user.nlvol.mode", b"cp")
+        os.rmdir(self.at(".checkpoints", str(number)))
+
+    def seconds(self):
+        """For how many seconds the program has computed."""
+        with open(f"/proc/{self.runs.pid}/stat", encoding="utf-8") as it:
+            words = it.read().rpartition(")")[2].split()
+        return (int(words[11]) + int(words[12])) / os.sysconf("SC_CLK_TCK")
 
 
 def run(*words, **how):
@@ -97,7 +115,7 @@ def sample(top):
 
 
 def programs(mount, work, due):
-    """cp, diff, tar, rsync, git and sqlite3 on a mount; those that aren't here are told."""
+    """cp, diff, tar, rsync, git, sqlite3, make and fio on a mount; those that aren't here are told."""
     plain, missing = os.path.join(work, "plain"), []
     sample(plain)
     with mount:
@@ -108,7 +126,7 @@ def programs(mount, work, due):
         os.mkdir(mount.at("untarred"))
         run("tar", "-C", mount.at("untarred"), "-xf", os.path.join(work, "copy.tar"))
         run("diff", "-r", plain, mount.at("untarred/copy"))
-        for name, tried in [("rsync", with_rsync), ("git", with_git), ("sqlite3", with_sqlite)]:
+        for name, tried in TRIED.items():
             if shutil.which(name):
                 tried(mount, work, plain, due)
             else:
@@ -147,6 +165,50 @@ def with_sqlite(mount, work, plain, due):
     run("sqlite3", mount.at("t.db"), "begin;" + script + "commit;")
     run("sqlite3", mount.at("t.db"), "insert into t select a + 20, b from t;")
     due(run("sqlite3", mount.at("t.db"), "pragma integrity_check; select count(*) from t;"), "ok\n40\n", "the database")
+
+
+PROJECT = {
+    "Makefile": """all: twice
+twice: main.o half.o
+\t$(CC) -o $@ $^
+%.o: %.c half.h
+\t$(CC) -c -o $@ $<
+archive.a: half.o
+\tar rcs $@ $^
+""",
+    "half.h": "int half(int number);\n",
+    "half.c": '#include "half.h"\nint half(int number) { return number / 2; }\n',
+    "main.c": '#include "half.h"\n#include <stdio.h>\nint main(void) { return printf("%d\\n", half(42)) != 3; }\n',
+}
+
+
+def with_make(mount, work, plain, due):
+    """A project is built, and built again after one of its files changed."""
+    os.mkdir(mount.at("project"))
+    for name, text in PROJECT.items():
+        with open(mount.at("project", name), "w", encoding="utf-8") as it:
+            it.write(text)
+    words = ["make", "-C", mount.at("project"), "CC=" + next(filter(shutil.which, ("cc", "gcc", "clang")))]
+    run(*words, "-j2", "all", "archive.a")
+    due(run(mount.at("project/twice")), "21\n", "what the program prints")
+    run(*words, "-q")
+    with open(mount.at("project/half.c"), "a", encoding="utf-8") as it:
+        it.write("int third(int number) { return number / 3; }\n")
+    due([it.split()[2] for it in run(*words).splitlines() if " -c " in it], ["-o"], "what is compiled again")
+    due(run(mount.at("project/twice")), "21\n", "what the program prints then")
+    run(*words, "-q")
+
+
+def with_fio(mount, work, plain, due):
+    """Blocks that are written in random order, with their sums in them, are read back."""
+    os.mkdir(mount.at("fio"))
+    words = ["--ioengine=psync", "--fallocate=none", "--verify=crc32c", "--verify_fatal=1", "--verify_state_save=0"]
+    for name, how in [("random", "--rw=randwrite"), ("mixed", "--rw=randrw"), ("syncs", "--rw=write")]:
+        more = ["--bs=4k", "--size=3m", "--nrfiles=3"] if name != "syncs" else ["--bs=3000", "--size=60000", "--fsync=4"]
+        run("fio", f"--name={name}", "--directory=" + mount.at("fio"), how, *more, *words, cwd=work)
+
+
+TRIED = {"rsync": with_rsync, "git": with_git, "sqlite3": with_sqlite, "make": with_make, "fio": with_fio}
 
 
 def refused(number, call, *arguments):
@@ -215,18 +277,66 @@ def room(mount, due):
             due(open(mount.at(f"f{number}"), "rb").read(), bytes([number % 256]) * 50000, f"f{number}")
 
 
+def cleaned(mount, due):
+    """That a configuration makes room where the volume can't grow: by it checkpoints are let go, and but for the
+    snapshot none else stays that its period doesn't protect."""
+    with mount:
+        for turn in range(150):
+            with open(mount.at("a"), "wb") as it:
+                it.write(bytes([turn]) * 100000)
+            if turn == 3:
+                first = mount.snapshot()
+            mount.sync()
+        due(len(mount.numbers()) < 60, True, "fewer checkpoints than were made")
+        due(open(mount.at(".checkpoints", str(first), "a"), "rb").read(), bytes([3]) * 100000, "the snapshot's file")
+    with mount:
+        due(open(mount.at("a"), "rb").read(), bytes([149]) * 100000, "the file after a remount")
+
+
+def misconfigured(program, work, due):
+    """That a configuration which can't be read is told before anything is mounted."""
+    path = os.path.join(work, "bad.conf")
+    with open(path, "w", encoding="utf-8") as it:
+        it.write("# of a test\nprotection_period 60\nprotection 5\n")
+    for conf, told in [(path, "line 3 is none of a configuration"), (work, "cannot be read")]:
+        words = [program, os.path.join(work, "none.img"), work, "-f", "-o", "init,conf=" + conf]
+        ran = subprocess.run(words, capture_output=True, text=True, check=False)
+        due((ran.returncode, ran.stderr), (1, f"nlfuse: {conf}: {told}\n"), "a bad configuration")
+        due(os.path.exists(os.path.join(work, "none.img")), False, "the image")
+
+
+def many_writes(mount, due):
+    """That the time of writes doesn't rise with what was written since the latest checkpoint."""
+    data = bytes(range(256)) * 16
+    with mount:
+        file = os.open(mount.at("a"), os.O_WRONLY | os.O_CREAT)
+        took = []
+        for number in range(10000):
+            os.write(file, data)
+            if number in (2499, 9999):
+                took.append(mount.seconds())
+        os.close(file)
+        if took[1] > 8 * took[0] + 1:
+            raise AssertionError(f"2,500 writes took {took[0]} seconds of the program, and 10,000 {took[1]}")
+    with mount:
+        with open(mount.at("a"), "rb") as it:
+            due(it.read() == data * 10000, True, "the bytes that were written")
+
+
 def delayed(mount, nlvol, due):
+    """That a save waits, and comes in time, also while more is written."""
     with mount:
         file = os.open(mount.at("a"), os.O_WRONLY | os.O_CREAT)
         os.write(file, b"1")
         os.fsync(file)
-        os.close(file)
         due(os.path.exists(mount.image), False, "the image before its time")
         until = time.monotonic() + 20
         while not os.path.exists(mount.image) and time.monotonic() < until:
-            time.sleep(0.2)
+            os.write(file, b"2")
+            time.sleep(0.1)
+        os.close(file)
         with nlvol.load(open(mount.image, "rb").read()) as v:
-            due(v.read_bytes("/a"), b"1", "the file of the image")
+            due(v.read_bytes("/a")[:2], b"12", "the file of the image")
 
 
 # ---- random calls
@@ -291,24 +401,39 @@ def ended(call, at):
         return ("refused", "alike" if error.errno in LIKE else errno.errorcode[error.errno])
 
 
+def digest(top):
+    return hashlib.sha256(repr(contents(top)).encode()).hexdigest()
+
+
+# How many calls come before a remount, how many snapshots are kept, and how many of them each mount looks at.
+CALLS, KEPT, LOOKS = 500, 12, 4
+
+
 def random_calls(mount, work, seed, count, due):
-    """Calls on a mount and in a plain folder, with snapshots, syncs and remounts between."""
+    """Calls on a mount and in a plain folder, with snapshots, saves and remounts between."""
     draw, plain, kept = random.Random(seed), os.path.join(work, f"plain{seed}"), {}
     os.mkdir(plain)
-    left = count
-    while left:
+    for left in range(count, 0, -CALLS):
         with mount:
-            for kept_at, tree in kept.items():
-                due(contents(mount.at(".checkpoints", str(kept_at))), tree, f"seed {seed}: checkpoint {kept_at}")
+            for number in draw.sample(sorted(kept), min(LOOKS, len(kept))):
+                due(digest(mount.at(".checkpoints", str(number))), kept[number], f"seed {seed}: checkpoint {number}")
+            run("diff", "-r", "--no-dereference", plain, mount.top)
             due(contents(mount.top), contents(plain), f"seed {seed}: the tree after a remount")
             due(attributes(mount.top), attributes_by(mount, plain), f"seed {seed}: modes and links after a remount")
-            for step in range(min(left, 250)):
+            for step in range(min(left, CALLS)):
                 names = [["/" + draw.choice(NAMES) for _ in range(draw.choice([1, 1, 2, 3]))] for _ in range(2)]
                 call = drawn_call(draw, *map("".join, names))
                 due(ended(call, mount.top), ended(call, plain), f"seed {seed}, {left - step} to go: {names}")
-                if step % 80 == 40:
-                    kept[mount.snapshot()] = contents(plain)
-            left -= min(left, 250)
+                if step % 160 == 40:
+                    kept[mount.snapshot()] = digest(plain)
+                if step % 160 == 120:
+                    mount.sync()
+            while len(kept) > KEPT:
+                number = draw.choice(sorted(kept))
+                mount.forget(number)
+                del kept[number]
+    with mount:
+        run("diff", "-r", "--no-dereference", plain, mount.top)
 
 
 def attributes_by(mount, plain):

@@ -10,7 +10,8 @@
  * rest: whatever the bytes and numbers are, none aborts, and each ends.
  *
  * What you get. Each call but nl_version, nl_close and nl_release answers a status: NL_DONE, or why it is
- * refused. Where it is refused, the volume and what your pointers lead to are as they were. NULL may stand
+ * refused. Where it is refused, the volume and what your pointers lead to are as they were, but for the line
+ * that nl_config tells. NULL may stand
  * for no bytes; where its length is above 0, the call is refused by NL_WRONG_ARGUMENT, and where the place of
  * a result is NULL as well. Paths are bytes with a length: they begin with '/', and have no '.' and '..'.
  * Moments are whole seconds. `at` is 0 for the current tree, or the number of a kept checkpoint. */
@@ -116,6 +117,30 @@ typedef struct {
     uint64_t left;
 } nl_move_told;
 
+/* How many blocks a checkpoint writes, and how many it has room for. */
+typedef struct {
+    uint64_t blocks;
+    uint64_t free;
+} nl_room_told;
+
+/* So many segments or blocks; or where `is_percent` is 1, so many hundredths of them. */
+typedef struct {
+    uint64_t number;
+    uint64_t is_percent;
+} nl_amount;
+
+/* What a configuration of cleaning sets, under the names of nilfs_cleanerd.conf(5). The period is in seconds.
+ */
+typedef struct {
+    uint64_t protection_period;
+    nl_amount min_clean_segments;
+    nl_amount max_clean_segments;
+    uint64_t nsegments_per_clean;
+    uint64_t mc_nsegments_per_clean;
+    nl_amount min_reclaimable_blocks;
+    nl_amount mc_min_reclaimable_blocks;
+} nl_config_told;
+
 /* The twelve bits of chmod(2), the owners, and the time of the last change: seconds that count from 1970, or
  * back from it where `is_negative` is 1, and what comes to them. */
 typedef struct {
@@ -170,6 +195,9 @@ uint32_t nlvol_segment(nl_volume *, uint32_t segment, nl_segment_told *told);
 uint32_t nlvol_resize(nl_volume *, uint32_t segments);
 uint32_t nlvol_move(nl_volume *, uint32_t segment, uint32_t limit, uint64_t moment, nl_move_told *told);
 uint32_t nlvol_retire(nl_volume *, uint32_t segment);
+uint32_t nlvol_room(nl_volume *, nl_room_told *room);
+uint32_t nlvol_room_bound(nl_volume *, nl_room_told *room);
+uint32_t nlvol_config(const uint8_t *text, size_t length, nl_config_told *config, uint64_t *line);
 uint32_t nlvol_manifest_read(nl_volume *, const uint8_t *bytes, size_t length, nl_attributes *own,
                              uint64_t *count);
 uint32_t nlvol_manifest_line(nl_volume *, uint64_t index, uint8_t *name, size_t name_room, uint8_t *target,
@@ -216,7 +244,8 @@ static inline void nl_close(nl_volume *v) {
     if (v) nlvol_close(v);
 }
 
-/* Leaves the image for nl_image_read, and tells its size. By NL_UNSETTLED: call nl_sync first. */
+/* Leaves the image for nl_image_read, and tells its size. The volume stays as it is. By NL_UNSETTLED: call
+ * nl_sync first. */
 static inline uint32_t nl_image(nl_volume *v, uint64_t *size) {
     NL_REFUSE_CLOSED(v);
     NL_REFUSE_NULL(size);
@@ -414,6 +443,35 @@ static inline uint32_t nl_move(nl_volume *v, uint32_t segment, uint32_t limit, u
 static inline uint32_t nl_retire(nl_volume *v, uint32_t segment) {
     NL_REFUSE_CLOSED(v);
     return nlvol_retire(v, segment);
+}
+
+/* ---- room */
+
+/* How many blocks the next checkpoint writes, and how many it has room for: where these are fewer, and only
+ * there, it is refused by NL_NO_SPACE. This takes as long as the checkpoint without its writes. */
+static inline uint32_t nl_room(nl_volume *v, nl_room_told *room) {
+    NL_REFUSE_CLOSED(v);
+    NL_REFUSE_NULL(room);
+    return nlvol_room(v, room);
+}
+
+/* As many blocks as it writes, or more, which takes no memory and hardly any time: so ask nl_room only where
+ * these are more than there is room for. */
+static inline uint32_t nl_room_bound(nl_volume *v, nl_room_told *room) {
+    NL_REFUSE_CLOSED(v);
+    NL_REFUSE_NULL(room);
+    return nlvol_room_bound(v, room);
+}
+
+/* ---- configurations of cleaning */
+
+/* Reads one, in the language of nilfs_cleanerd.conf(5), which `nlvol --conf` reads too. By NL_BAD_CONFIG:
+ * then `line` alone is told, the number of the first line that can't be read, from 1. Else it is 0. */
+static inline uint32_t nl_config(const void *text, size_t length, nl_config_told *config, uint64_t *line) {
+    NL_REFUSE_MISSING(text, length);
+    NL_REFUSE_NULL(config);
+    NL_REFUSE_NULL(line);
+    return nlvol_config(nl_bytes(text), length, config, line);
 }
 
 /* ---- manifests: the modes, times, owners and symbolic links of a directory, which nlkeep keeps in its file

@@ -23,7 +23,7 @@ struct folder {
     bool is_told;    /* it has a manifest, or will have one */
     bool is_changed; /* since the manifest was written */
     bool is_shown;   /* its .nlkeep is no manifest, but an ordinary file */
-    uint64_t turn;   /* the checkpoint for which it was counted last */
+    uint64_t turn;   /* in which it was counted last */
     struct attributes own;
     struct line *lines; /* ascending by name */
     size_t count, room;
@@ -370,19 +370,20 @@ static uint64_t bytes_of(const struct folder *folder) {
     return bytes;
 }
 
-int take_room_above(const char *path) {
+uint64_t blocks_above(const char *path) {
     const char *name;
     nl_object object;
     struct folder *folder = folder_above(0, path, &name);
-    if (!folder) return -ENOMEM;
-    bool is_counted = folder->turn == room_turn();
+    if (!folder) return 0;
+    if (folder->turn == room_turn()) return 4;
     if (nl_stat(&nlfuse.volume, 0, folder->path, strlen(folder->path), &object) != NL_DONE) return 0;
-    uint64_t whole = blocks_of(272 * object.size) + blocks_of(bytes_of(folder)) + 24;
-    int error = take_room(is_counted ? 4 : whole);
-    /* room may have been made by a checkpoint, which leaves all to be counted anew */
-    if (!error && is_counted && folder->turn != room_turn()) error = take_room(whole);
-    folder->turn = room_turn();
-    return error;
+    return blocks_of(272 * object.size) + blocks_of(bytes_of(folder)) + 24;
+}
+
+void note_above(const char *path) {
+    const char *name;
+    struct folder *folder = folder_above(0, path, &name);
+    if (folder) folder->turn = room_turn();
 }
 
 /* Leaves the bytes of a manifest for nl_image_read. */

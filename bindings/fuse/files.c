@@ -197,13 +197,24 @@ static int tell_room(const char *path, struct statvfs *room) {
     if (most < info.segments) most = info.segments;
     room->f_bsize = room->f_frsize = BLOCK;
     room->f_blocks = most * info.blocks;
-    room->f_bfree = room->f_bavail = (most - info.segments + info.clean) * (info.blocks - 1);
+    room->f_bfree = room->f_bavail = blocks_left();
     room->f_files = room->f_ffree = 524288;
     room->f_namemax = MOST_NAME;
     return leave(0);
 }
 
 /* ---- files are changed */
+
+static int take_room_above(const char *path) { return take_room(&(struct change){.path = path}); }
+
+static int take_room_in(const char *path, uint64_t bytes) {
+    return take_room(&(struct change){.path = path, .bytes = bytes, .is_in_file = true});
+}
+
+/* A target may take four bytes for each of its own. */
+static int take_room_for_link(const char *path, const char *other, uint64_t size) {
+    return take_room(&(struct change){.path = path, .other = other, .bytes = 4 * size});
+}
 
 static int open_file(const char *path, struct fuse_file_info *info) {
     struct place place;
@@ -219,23 +230,6 @@ static int open_file(const char *path, struct fuse_file_info *info) {
     if (!error) error = told(nl_truncate(&nlfuse.volume, path, strlen(path), 0));
     if (!error) error = touch(path, false);
     return leave(error);
-}
-
-/* Of a file that is written on, the inode and the nodes are counted once for each checkpoint. */
-static int take_room_in(const char *path, size_t count) {
-    static char *last;
-    static uint64_t turn;
-    int error = take_room_above(path);
-    if (error) return error;
-    bool is_counted = last && turn == room_turn() && !strcmp(last, path);
-    uint64_t whole = blocks_of(count) + 2;
-    error = take_room(is_counted ? count / BLOCK + count / 65536 + 3 : whole);
-    if (is_counted && turn == room_turn()) return error;
-    if (!error && is_counted) error = take_room(whole); /* room was made by a checkpoint */
-    free(last);
-    last = strdup(path);
-    turn = room_turn();
-    return error;
 }
 
 static int write_bytes(const char *path, const char *bytes, size_t count, off_t offset,
@@ -307,7 +301,7 @@ static int make_link(const char *target, const char *path) {
     nl_object object;
     int error = enter_to_change(path, &place);
     if (!error && !find_object(&place, &object)) error = -EEXIST;
-    if (!error) error = take_room_above(path);
+    if (!error) error = take_room_for_link(path, NULL, strlen(target));
     if (!error) error = set_link(path, target);
     if (!error) touch_above(path);
     return leave(error);
@@ -376,7 +370,8 @@ static int move_path(const char *from, const char *to, unsigned flags) {
     if (error) return error;
     if (is_there && (flags & RENAME_NOREPLACE)) return -EEXIST;
     if (!strcmp(from, to)) return 0;
-    if ((error = take_room_above(from)) || (error = take_room_above(to))) return error;
+    error = take_room_for_link(from, to, moved.kind == LINK ? moved.size : 0);
+    if (error) return error;
     if (is_there && (error = give_way(to, &moved, &old))) return error;
     if (moved.kind != LINK) error = told(nl_rename(&nlfuse.volume, from, strlen(from), to, strlen(to)));
     if (!error) error = move_attributes(from, to, moved.kind == NL_DIRECTORY);

@@ -10,7 +10,7 @@
 #include <string.h>
 #include <unistd.h>
 
-struct nlfuse nlfuse = {.lock = PTHREAD_MUTEX_INITIALIZER, .file = -1, .save_after = -1, .expire_after = -1};
+struct nlfuse nlfuse = {.lock = PTHREAD_MUTEX_INITIALIZER, .file = -1, .save_after = -1};
 
 int told(uint32_t status) {
     static const int errors[] = {
@@ -27,13 +27,13 @@ int told(uint32_t status) {
 }
 
 struct words {
-    char *image;
-    int save, expire, max, init, help;
+    char *image, *conf;
+    int save, max, init, help;
 };
 
 static const struct fuse_opt options[] = {
     {"save=%d", offsetof(struct words, save), 0},
-    {"expire=%d", offsetof(struct words, expire), 0},
+    {"conf=%s", offsetof(struct words, conf), 0},
     {"max=%d", offsetof(struct words, max), 0},
     {"init", offsetof(struct words, init), 1},
     {"-h", offsetof(struct words, help), 1},
@@ -52,7 +52,8 @@ static const char help[] =
     "    -o init              makes IMAGE where there is none\n"
     "    -o save=SECONDS      fsync returns at the checkpoint, and the image is saved within so many seconds:\n"
     "                         what was synced in these is lost if the machine stops. Else fsync saves it\n"
-    "    -o expire=SECONDS    where room lacks, plain checkpoints that are older are let go. Else none is\n"
+    "    -o conf=FILE         where room lacks, plain checkpoints are let go that are older than the\n"
+    "                         protection_period of this configuration, which is one of nlvol. Else none is\n"
     "    -o max=MEGABYTES     how large the volume grows at most, 256 if it isn't told\n"
     "    -f                   stays in the foreground\n"
     "\n"
@@ -67,21 +68,55 @@ static int take_word(void *data, const char *word, int key, struct fuse_args *le
     return 0;
 }
 
+/* ---- the configuration of cleaning */
+
+/* All bytes of a file, which the caller frees. NULL: it can't be read. */
+static char *bytes_in(const char *path, size_t *size) {
+    char *bytes = NULL, *more;
+    size_t count = 0, room = 0;
+    FILE *file = fopen(path, "rb");
+    while (file && (more = realloc(bytes, room + 4096))) {
+        bytes = more;
+        room += 4096;
+        count += fread(bytes + count, 1, room - count, file);
+        if (count < room) break;
+    }
+    bool is_whole = file && feof(file) && !ferror(file);
+    if (file) fclose(file);
+    if (!is_whole) free(bytes), bytes = NULL;
+    *size = count;
+    return bytes;
+}
+
+static bool read_configuration(const char *path) {
+    size_t size;
+    uint64_t line = 0;
+    char *bytes = bytes_in(path, &size);
+    if (!bytes) return fprintf(stderr, "nlfuse: %s: cannot be read\n", path), false;
+    uint32_t status = nl_config(bytes, size, &nlfuse.configuration, &line);
+    free(bytes);
+    nlfuse.is_configured = status == NL_DONE;
+    if (status == NL_BAD_CONFIG)
+        fprintf(stderr, "nlfuse: %s: line %llu is none of a configuration\n", path, (unsigned long long)line);
+    else if (status != NL_DONE) fprintf(stderr, "nlfuse: %s: %s\n", path, strerror(ENOMEM));
+    return nlfuse.is_configured;
+}
+
 int main(int argc, char **argv) {
     struct fuse_args args = FUSE_ARGS_INIT(argc, argv);
-    struct words words = {.save = -1, .expire = -1, .max = 256};
+    struct words words = {.save = -1, .max = 256};
     if (fuse_opt_parse(&args, &words, options, take_word)) return 2;
     if (words.help || !words.image) {
         fputs(help, words.help ? stdout : stderr);
         return words.help ? 0 : 2;
     }
     nlfuse.save_after = words.save;
-    nlfuse.expire_after = words.expire;
     nlfuse.makes_image = words.init;
     nlfuse.most_blocks = words.max > 0 && words.max < 256 ? (uint64_t)words.max * 1024 : 262144;
     nlfuse.owner = getuid();
     nlfuse.group = getgid();
     clock_gettime(CLOCK_REALTIME, &nlfuse.began);
+    if (words.conf && !read_configuration(words.conf)) return 1;
     if (!open_image(words.image)) return 1;
     fuse_opt_add_arg(&args, "-odefault_permissions,fsname=nlvol,subtype=nlfuse");
     int status = fuse_main(args.argc, args.argv, &operations, NULL);

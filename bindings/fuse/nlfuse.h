@@ -23,8 +23,9 @@ struct nlfuse {
     int file;
     /* With `-o save=SECONDS`: how long a save may wait. -1: not at all. */
     int save_after;
-    /* With `-o expire=SECONDS`: which plain checkpoints a round of cleaning lets go. -1: none. */
-    int expire_after;
+    /* With `-o conf=FILE`: by what a round of cleaning lets plain checkpoints go. Else it lets none go. */
+    bool is_configured;
+    nl_config_told configuration;
     bool makes_image;
     /* With `-o max=MEGABYTES`: how many blocks the volume has at most. */
     uint64_t most_blocks;
@@ -54,14 +55,24 @@ void end_saving(void);
 
 /* ---- room.c */
 
+/* A change of the current tree: the path by which a name is made, changed or taken away, and of a rename the
+ * other one; and how many bytes are written, into the file at the path or into the manifest above it. */
+struct change {
+    const char *path, *other;
+    uint64_t bytes;
+    bool is_in_file;
+};
+
+/* Counts a change to the next checkpoint, and makes room for it. 0, or an errno, negated: -ENOSPC. */
+int take_room(const struct change *change);
+/* How many blocks may be written still. */
+uint64_t blocks_left(void);
 /* How many segments of so many blocks the volume has at most. */
 uint64_t most_segments(uint64_t blocks);
-/* Counts so many blocks to the next checkpoint, and makes room for them. 0, or -ENOSPC. */
-int take_room(uint64_t blocks);
 /* How many blocks so many bytes take at most that are written anew: of each its own, and of some their node;
  * the inode and the nodes above. */
 uint64_t blocks_of(uint64_t bytes);
-/* A number that changes with each checkpoint. */
+/* A number that changes where all is to be counted anew. */
 uint64_t room_turn(void);
 /* Makes a checkpoint. */
 uint32_t make_checkpoint(uint32_t flags, uint64_t *number);
@@ -112,8 +123,10 @@ void forget(const char *path, bool is_dir);
 int move_attributes(const char *from, const char *to, bool is_dir);
 /* Writes the manifests that have changed into the volume. */
 int settle_attributes(void);
-/* Counts what the next checkpoint writes of the directory of a path, with one name more. 0, or -ENOSPC. */
-int take_room_above(const char *path);
+/* How many blocks a change of a name adds at most in the directory above it and in that one's manifest, and
+ * that they are counted. */
+uint64_t blocks_above(const char *path);
+void note_above(const char *path);
 /* Whether a name is that of manifests, which the mount doesn't show. */
 bool is_manifest_name(const char *path);
 

@@ -217,12 +217,29 @@ static int save_image(bool is_last) {
     return error;
 }
 
+/* Makes a plain checkpoint where something has changed since the latest one. */
+static int settle(void) {
+    nl_info_told info;
+    uint64_t number;
+    int error = settle_attributes();
+    if (error) return error;
+    uint32_t status = nl_info(&nlfuse.volume, &info);
+    if (status == NL_DONE && info.dirty) status = make_checkpoint(NL_PLAIN, &number);
+    return status == NL_DONE ? 0 : told(status);
+}
+
 /* ---- when it is saved */
 
 static pthread_t saver;
 static pthread_cond_t changed = PTHREAD_COND_INITIALIZER;
 static time_t due;
 static bool ends;
+
+/* An image has what the latest checkpoint has, so one is made of what was written since the sync. */
+static int settle_and_save(void) {
+    int error = settle();
+    return error ? error : save_image(false);
+}
 
 /* Saves when it is due, with the lock, which it gives back while it waits. */
 static void *save_in_time(void *nothing) {
@@ -231,7 +248,7 @@ static void *save_in_time(void *nothing) {
         struct timespec until = {due, 0};
         if (!due) pthread_cond_wait(&changed, &nlfuse.lock);
         else if (time(NULL) < due) pthread_cond_timedwait(&changed, &nlfuse.lock, &until);
-        else if (!save_image(false)) due = 0;
+        else if (!settle_and_save()) due = 0;
         else due = time(NULL) + nlfuse.save_after + 1;
     }
     pthread_mutex_unlock(&nlfuse.lock);
@@ -249,17 +266,6 @@ void end_saving(void) {
     pthread_cond_signal(&changed);
     pthread_mutex_unlock(&nlfuse.lock);
     pthread_join(saver, NULL);
-}
-
-/* Makes a plain checkpoint where something has changed since the latest one. */
-static int settle(void) {
-    nl_info_told info;
-    uint64_t number;
-    int error = settle_attributes();
-    if (error) return error;
-    uint32_t status = nl_info(&nlfuse.volume, &info);
-    if (status == NL_DONE && info.dirty) status = make_checkpoint(NL_PLAIN, &number);
-    return status == NL_DONE ? 0 : told(status);
 }
 
 int sync_volume(void) {

@@ -26,14 +26,18 @@ import time
 from typing import Iterator, NamedTuple, Type, Union
 
 __all__ = [
+    "Amount",
     "Attributes",
     "Checkpoint",
+    "Config",
     "Entry",
     "Info",
     "Refused",
+    "Room",
     "Segment",
     "Tree",
     "Volume",
+    "config",
     "create",
     "load",
     "new",
@@ -49,7 +53,8 @@ _open_file = open
 
 class Refused(OSError):
     """A call that was refused: all is as it was before it. `errno` is that of the like refusal in POSIX, `status`
-    the library's number, and of bytes that are no image `condition` says which condition they fail first.
+    the library's number, of bytes that are no image `condition` says which condition they fail first, and of a
+    configuration `line` the number of the first line that can't be read.
 
     >>> with new() as v:
     ...     v.read_bytes("/a")
@@ -60,6 +65,7 @@ class Refused(OSError):
 
     status = 0
     condition = 0
+    line = 0
 
 
 def _refusal(name: str, number: int, text: str, kind: Type[OSError] = OSError) -> tuple[type, int, str]:
@@ -104,10 +110,10 @@ _REFUSALS = {
 }
 
 
-def _raise(status: int, path: Name | None) -> None:
+def _raise(status: int, path: Name | None, line: int = 0) -> None:
     made, number, text = _REFUSALS[status & 255]
     error = made(number, text) if path is None else made(number, text, path)
-    error.status, error.condition = status & 255, status >> 8
+    error.status, error.condition, error.line = status & 255, status >> 8, line
     raise error
 
 
@@ -128,12 +134,25 @@ _Range = _of_numbers("_Range", "removed", "stayed")
 _Info = _of_numbers("_Info", "segments", "blocks", "clean", "checkpoints", "snapshots", "latest", "dirty")
 _Segment = _of_numbers("_Segment", "state", "stamp", "used", "needed")
 _Move = _of_numbers("_Move", "moved", "left")
+_Room = _of_numbers("_Room", "blocks", "free")
+_Amount = _of_numbers("_Amount", "number", "is_percent")
 _Attributes = _of_numbers("_Attributes", "mode", "owner", "group", "is_negative", "seconds", "nanoseconds")
 
 
 class _Line(ctypes.Structure):
     _fields_ = [("name_size", ctypes.c_uint64), ("target_size", ctypes.c_uint64), ("attributes", _Attributes)]
 
+
+class _Config(ctypes.Structure):
+    _fields_ = [
+        ("protection_period", ctypes.c_uint64),
+        ("min_clean_segments", _Amount),
+        ("max_clean_segments", _Amount),
+        ("nsegments_per_clean", ctypes.c_uint64),
+        ("mc_nsegments_per_clean", ctypes.c_uint64),
+        ("min_reclaimable_blocks", _Amount),
+        ("mc_min_reclaimable_blocks", _Amount),
+    ]
 
 
 _u32, _u64 = ctypes.c_uint32, ctypes.c_uint64
@@ -169,6 +188,8 @@ _CALLS = {
     "resize": [_u32],
     "move": [_u32, _u32, _u64, _to(_Move)],
     "retire": [_u32],
+    "room": [_to(_Room)],
+    "room_bound": [_to(_Room)],
     "manifest_read": [*_bytes, _to(_Attributes), _to(_u64)],
     "manifest_line": [_u64, *_bytes, *_bytes, _to(_Line)],
     "manifest_begin": [_to(_Attributes)],
@@ -196,6 +217,7 @@ def _declared(library: ctypes.CDLL) -> ctypes.CDLL:
         call = getattr(library, "nlvol_" + name)
         call.argtypes, call.restype = [_to(_Handle)], None
     library.nlvol_version.argtypes, library.nlvol_version.restype = [], _u32
+    library.nlvol_config.argtypes, library.nlvol_config.restype = [*_bytes, _to(_Config), _to(_u64)], _u32
     return library
 
 
@@ -212,6 +234,27 @@ def version() -> str:
     """
     number = _library.nlvol_version()
     return f"{number >> 16}.{number >> 8 & 255}.{number & 255}"
+
+
+def config(text: bytes) -> Config:
+    """Reads a configuration of cleaning, in the language of nilfs_cleanerd.conf(5).
+
+    >>> config(b"protection_period 60\\nmin_clean_segments 5 # of them").protection_period
+    60
+    >>> config(b"").max_clean_segments
+    Amount(number=20, is_percent=True)
+    >>> try:
+    ...     config(b"protection_period 60\\nprotection 5")
+    ... except BadConfig as error:
+    ...     error.line
+    2
+    """
+    told, line = _Config(), _u64()
+    status = _library.nlvol_config(bytes(text), len(text), ctypes.byref(told), ctypes.byref(line))
+    if status:
+        _raise(status, None, line.value)
+    values = [getattr(told, name) for name in Config._fields]
+    return Config(*(Amount(it.number, bool(it.is_percent)) if isinstance(it, _Amount) else it for it in values))
 
 
 # ---- what is told
@@ -254,6 +297,32 @@ class Segment(NamedTuple):
     stamp: int
     used: int
     needed: int
+
+
+class Room(NamedTuple):
+    """How many blocks of 1,024 bytes a checkpoint writes, and how many it has room for."""
+
+    blocks: int
+    free: int
+
+
+class Amount(NamedTuple):
+    """So many segments or blocks, or so many hundredths of them."""
+
+    number: int
+    is_percent: bool
+
+
+class Config(NamedTuple):
+    """A configuration of cleaning, under the names of nilfs_cleanerd.conf(5). The period is in seconds."""
+
+    protection_period: int
+    min_clean_segments: Amount
+    max_clean_segments: Amount
+    nsegments_per_clean: int
+    mc_nsegments_per_clean: int
+    min_reclaimable_blocks: Amount
+    mc_min_reclaimable_blocks: Amount
 
 
 class Attributes(NamedTuple):
@@ -570,6 +639,21 @@ class Volume(Tree):
     def retire(self, segment: int) -> None:
         """Leaves a segment clean in which no block is needed."""
         self._call("retire", segment)
+
+    def room(self, exact: bool = True) -> Room:
+        """How many blocks the next checkpoint writes, and how many it has room for; where these are fewer, and only
+        there, it is refused by `NoSpace`. That takes as long as the checkpoint without its writes. Else it is as many
+        as it writes, or more, which takes hardly any time.
+
+        >>> with new(segments=8, blocks=16) as v:
+        ...     v.write_bytes("/a", bytes(20000))
+        ...     room = v.room()
+        ...     room.blocks > 20, room.blocks < room.free, v.room(exact=False).blocks >= room.blocks
+        (True, True, True)
+        """
+        told = _Room()
+        self._call("room" if exact else "room_bound", told)
+        return Room(told.blocks, told.free)
 
     # ---- images
 

@@ -75,6 +75,35 @@ pub struct Move {
     pub left: u64,
 }
 
+/// How many blocks a checkpoint writes, and how many it has room for.
+#[repr(C)]
+#[derive(Clone, Copy, Debug, Default, PartialEq, Eq)]
+pub struct Room {
+    pub blocks: u64,
+    pub free: u64,
+}
+
+/// So many segments or blocks; or where `is_percent` is 1, so many hundredths of them.
+#[repr(C)]
+#[derive(Clone, Copy, Debug, Default, PartialEq, Eq)]
+pub struct Amount {
+    pub number: u64,
+    pub is_percent: u64,
+}
+
+/// A configuration of cleaning, under the names of nilfs_cleanerd.conf(5). The period is in seconds.
+#[repr(C)]
+#[derive(Clone, Copy, Debug, Default, PartialEq, Eq)]
+pub struct Config {
+    pub protection_period: u64,
+    pub min_clean_segments: Amount,
+    pub max_clean_segments: Amount,
+    pub nsegments_per_clean: u64,
+    pub mc_nsegments_per_clean: u64,
+    pub min_reclaimable_blocks: Amount,
+    pub mc_min_reclaimable_blocks: Amount,
+}
+
 #[rustfmt::skip]
 extern "C" {
     fn nlvol_version() -> u32;
@@ -108,6 +137,9 @@ extern "C" {
     fn nlvol_resize(v: *mut Handle, segments: u32) -> u32;
     fn nlvol_move(v: *mut Handle, segment: u32, limit: u32, moment: u64, told: *mut Move) -> u32;
     fn nlvol_retire(v: *mut Handle, segment: u32) -> u32;
+    fn nlvol_room(v: *mut Handle, room: *mut Room) -> u32;
+    fn nlvol_room_bound(v: *mut Handle, room: *mut Room) -> u32;
+    fn nlvol_config(text: *const u8, length: usize, config: *mut Config, line: *mut u64) -> u32;
 }
 
 // ---- refusals
@@ -127,6 +159,7 @@ impl Refused {
     pub const NO_SPACE: u32 = 16;
     pub const NO_MEMORY: u32 = 18;
     pub const BAD_IMAGE: u32 = 24;
+    pub const BAD_CONFIG: u32 = 27;
     pub const UNSETTLED: u32 = 66;
 }
 
@@ -154,6 +187,15 @@ fn done(status: u32) -> Result<(), Refused> {
 pub fn version() -> u32 {
     // SAFETY: it takes nothing.
     unsafe { nlvol_version() }
+}
+
+/// Reads a configuration of cleaning, in the language of nilfs_cleanerd.conf(5). Where it is refused, the number
+/// of the first line that can't be read, from 1, is told too, or 0 for want of memory.
+pub fn config(text: &[u8]) -> Result<Config, (Refused, u64)> {
+    let (mut config, mut line) = (Config::default(), 0);
+    // SAFETY: the pointers stand with their lengths.
+    let status = unsafe { nlvol_config(text.as_ptr(), text.len(), &mut config, &mut line) };
+    done(status).map(|()| config).map_err(|refused| (refused, line))
 }
 
 /// A volume in memory. It is closed at its end.
@@ -363,5 +405,22 @@ impl Volume {
 
     pub fn retire(&mut self, segment: u32) -> Result<(), Refused> {
         call!(self, nlvol_retire, segment)
+    }
+
+    // ---- room
+
+    /// Tells how many blocks the next checkpoint writes, and how many it has room for: where these are fewer, and
+    /// only there, it is refused by `NO_SPACE`. It takes as long as the checkpoint without its writes.
+    pub fn room(&mut self) -> Result<Room, Refused> {
+        let mut room = Room::default();
+        call!(self, nlvol_room, &mut room)?;
+        Ok(room)
+    }
+
+    /// Tells as many blocks as the next checkpoint writes, or more. It takes no memory and hardly any time.
+    pub fn room_bound(&mut self) -> Result<Room, Refused> {
+        let mut room = Room::default();
+        call!(self, nlvol_room_bound, &mut room)?;
+        Ok(room)
     }
 }

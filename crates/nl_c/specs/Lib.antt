@@ -1,11 +1,13 @@
 pub mod Answers
 pub mod Calls
 pub mod CheckpointCalls
+pub mod Configurations
 pub mod Copying
 pub mod Manifests
 pub mod Openings
 pub mod Places
 pub mod Reads
+pub mod RoomCalls
 pub mod Saving
 pub mod SegmentCalls
 pub mod Statuses

@@ -1,21 +1,16 @@
 -- The image of a volume.
-use Rattle.std.specs.Prelude.{◌≡◌, ◌⊎◌, ◌≤◌, ℕ, ◌==◌, Bool, false, ◌&&◌, not, List, [], length, drop, Option, None, Some, Result, Ok, Err}
+use Rattle.std.specs.Prelude.{◌≡◌, ◌⊎◌, ◌≤◌, ℕ, true, false, List, [], length, drop, Option, None, Some, Result, Ok, Err}
 use Rattle.std.specs.Option.{option_map}
 use Rattle.nl_types.specs.declared.error.VolError.{VolError}
 use Rattle.nl_types.specs.declared.error.VolError.TheVariants.{Fault, Memory}
 use Rattle.nl_vstore.specs.Stores.{KeepsStored}
 use Rattle.nl_commit.specs.Layout.{Layout}
-use Rattle.nl_commit.specs.Volume.{Lists}
-use Rattle.nl_core.specs.PenImages.{CanBeClosed, IsPenImage}
+use Rattle.nl_core.specs.PenImages.{IsImageBeside}
 use Rattle.nl_c.specs.Calls.{IsClosed, with_pen}
 use Rattle.nl_c.specs.Copying.{filled, fitting}
 use Rattle.nl_c.specs.Openings.{no_manifest}
 use Rattle.nl_c.specs.Statuses.{closed, done, error_number, unsettled}
 use Rattle.nl_c.specs.declared.held.Held.{Held}
-
--- nothing is dirty, and nothing mounted
-abbrev pub is_settled : Lists → Bool
-is_settled l = not l.dirty && (length l.mounts == 0)
 
 -- what the volume holds stays; a read of the device that failed may be counted
 pub record IsOnlyRead (old new : Layout) : Type 0 where
@@ -26,11 +21,12 @@ pub record IsOnlyRead (old new : Layout) : Type 0 where
 -- why there is no image
 abbrev pub IsImageRefusal : (old : Layout) → (status : ℕ) → (new : Layout) → Type 0
 IsImageRefusal old status new =
-    ((status ≡ unsettled) × (is_settled old.lists ≡ false) × (new ≡ old))
+    ((status ≡ unsettled) × (old.lists.dirty ≡ true) × (new ≡ old))
     ⊎ (IsOnlyRead old new × (e : VolError) × ((e ≡ Fault) ⊎ (e ≡ Memory)) × (status ≡ error_number e))
 
+-- where nothing is dirty, the image of the volume once its mounts are given back; they stay
 abbrev pub IsPenImaged : (old : Layout) → Result (List ℕ) ℕ → (new : Layout) → Type 0
-IsPenImaged old (Ok bytes) new = CanBeClosed old.lists × IsPenImage old bytes × IsOnlyRead old new
+IsPenImaged old (Ok bytes) new = (old.lists.dirty ≡ false) × IsImageBeside old bytes × IsOnlyRead old new
 IsPenImaged old (Err status) new = IsImageRefusal old status new
 
 -- the image is left to be copied out, and its size told

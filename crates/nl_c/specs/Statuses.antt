@@ -19,7 +19,7 @@ closed = 64
 abbrev pub wrong_argument : ℕ
 wrong_argument = 65
 
--- the current tree may differ from the latest checkpoint, or something is mounted
+-- the current tree may differ from the latest checkpoint
 abbrev pub unsettled : ℕ
 unsettled = 66
 

@@ -1,7 +1,6 @@
 //! The image of a volume, and what calls have left to be copied out.
-ghost use Rattle.std.specs.Prelude.{◌≡◌, true, drop};
-ghost use Rattle.nl_core.specs.PenImages.{CanBeClosed};
-ghost use Rattle.nl_c.specs.Saving.{IsImageRead, IsImaged, IsPenImaged, is_settled, released};
+ghost use Rattle.std.specs.Prelude.{◌≡◌, drop};
+ghost use Rattle.nl_c.specs.Saving.{IsImageRead, IsImaged, IsPenImaged, released};
 
 use crate::copying::copy_bytes;
 use crate::held::no_manifest;
@@ -12,22 +11,14 @@ use nl_device::MemDevice;
 use nl_types::Items;
 use std::alloc::Global;
 
-/// Whether an image would have all that the volume means: nothing is dirty, and nothing mounted.
-fn is_settled(pen: &Pen<MemDevice>) -> bool
-    ensures exact { result ≡ is_settled pen.now.lists }
-    ensures closes { result ≡ true → CanBeClosed pen.now.lists }
-{
-    !pen.is_dirty() && pen.mount_count() == 0
-}
-
-/// The image of a volume, or the number of the refusal.
+/// The image of a volume without its mounts, which stay, or the number of the refusal.
 fn image_of(pen: &mut Pen<MemDevice>) -> Result<Items<u8>, u32>
     ensures { IsPenImaged pen.old result pen.new }
 {
-    if !is_settled(pen) {
+    if pen.is_dirty() {
         return Err(UNSETTLED);
     }
-    match pen.close() {
+    match pen.image_beside() {
         Ok(bytes) => Ok(Items::from_vec(bytes)),
         Err(error) => Err(error_number(error)),
     }

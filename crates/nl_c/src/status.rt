@@ -16,7 +16,7 @@ pub(crate) const CLOSED: u32 = 64;
 /// A flag or an index is none.
 pub(crate) const WRONG_ARGUMENT: u32 = 65;
 
-/// The current tree may differ from the latest checkpoint, or something is mounted.
+/// The current tree may differ from the latest checkpoint.
 pub(crate) const UNSETTLED: u32 = 66;
 
 /// The number of a refusal, with the condition of an image 256 times above it.
