@@ -63,7 +63,7 @@ pub extern "C" fn nlvol_room(alloc: Global, volume: &mut Volume, room: &mut Room
 }
 
 /// Tells as many blocks as the next checkpoint writes, or more, and how many it has room for. It takes no
-/// memory, and looks at each inode that changed, but at none of its blocks or names.
+/// memory, and looks at nothing that changed.
 #[unsafe(no_mangle)]
 pub extern "C" fn nlvol_room_bound(alloc: Global, volume: &mut Volume, room: &mut RoomTold) -> u32
     ensures told { IsBoundTold volume.old.place.held room.old result room.new }

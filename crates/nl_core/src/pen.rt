@@ -329,8 +329,8 @@ impl<D: Device> Pen<D> {
     }
 
     /// No fewer blocks than the next checkpoint has to write, as far as a `usize` goes: without a draft and
-    /// without memory. It looks at each inode that changed, but at none of its blocks or names. So whoever
-    /// writes asks for the room itself only where this is more than the segments have room for.
+    /// without memory, in constant time, since file calls count what they change. So whoever writes asks for
+    /// the room itself only where this is more than the segments have room for.
     pub fn room_bound(&self) -> usize
         ensures { (blocks : ℕ) → HasToWrite self.now blocks → IsNoLess blocks result }
     {

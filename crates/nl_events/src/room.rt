@@ -39,7 +39,7 @@ impl<V: Vstore> Parts<V> {
     }
 
     /// No fewer blocks than the next checkpoint has to write, as far as a `usize` goes: without a draft and
-    /// without memory. It looks at each inode that changed, but at none of its blocks or names.
+    /// without memory, in constant time.
     pub fn room_bound(&self) -> usize
         ensures { (blocks : ℕ) → HasToWrite self.now blocks → IsNoLess blocks result }
     {

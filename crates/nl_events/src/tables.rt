@@ -449,8 +449,7 @@ impl Tables {
         Ok(batch.births().len())
     }
 
-    /// No fewer blocks than the next checkpoint has to write. It looks at each inode that changed, and takes
-    /// no memory.
+    /// No fewer blocks than the next checkpoint has to write. It takes constant time, and no memory.
     pub fn room_bound(&self) -> usize
         ensures { IsNoLess (most_births self.now.lists.current.became) result }
     {

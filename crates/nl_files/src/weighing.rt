@@ -8,8 +8,7 @@ use nl_tree::CurrentTree;
 /// How many nodes the file of inodes has at most, above its 65,536 blocks.
 const INODE_FILE_NODES: usize = 523;
 
-/// How many blocks a checkpoint of the tree writes at most. It looks at each inode that changed, but at none
-/// of its blocks or names, and takes no memory.
+/// How many blocks a checkpoint of the tree writes at most. It takes constant time, and no memory.
 pub fn most_births(tree: &CurrentTree) -> usize
     ensures { IsNoLess (most_births tree.now.became) result }
 {

@@ -18,6 +18,7 @@ pub mod HoldingSteps
 pub mod ReadBytes
 pub mod StoredBytes
 pub mod WrittenBlocks
+pub mod Weights
 pub mod WrittenSlots
 pub mod CutBlocks
 pub mod CallsLead
@@ -29,4 +30,3 @@ pub mod PlacesFound
 pub mod CallsJudged
 pub mod CallsStand
 pub mod Answered
-pub mod Weights

@@ -1,9 +1,9 @@
 -- What a write to one slot of an overlay keeps.
-use Rattle.std.proofs.Common.{◌≡◌, ◌==◌, ◌⊎◌, inl, inr, ℕ, Bool, true, false, Option, None, Some, refl, sym, ap, subst, ◌∙◌, IsSome}
+use Rattle.std.proofs.Common.{◌≡◌, ◌==◌, ◌⊎◌, inl, inr, ℕ, Bool, true, false, Option, None, Some, refl, sym, ap, subst, ◌∙◌, IsSome, List, ◌+◌, arith}
 use Rattle.std.specs.Prelude.{cond, is_some}
 use Rattle.std.specs.Ordering.{nat_cmp}
 use Rattle.std.specs.BTreeMap as map
-use Rattle.std.specs.BTreeMap.{BTreeMap, WritesThrough, is_at}
+use Rattle.std.specs.BTreeMap.{BTreeMap, WritesThrough, insert_entry, is_at}
 use Rattle.std.proofs.lemmas.Bool.{cases_eq, ne_eqb}
 use Rattle.nl_tree.specs.declared.overlay.Changed.{Changed}
 use Rattle.nl_tree.specs.declared.overlay.Changed.TheVariants.{File}
@@ -11,8 +11,11 @@ use Rattle.nl_tree.specs.declared.overlay.FileBlocks.{FileBlocks}
 use Rattle.nl_tree.specs.declared.overlay.Overlay.{Overlay}
 use Rattle.nl_tree.specs.declared.overlay.Slot.{Slot}
 use Rattle.nl_tree.specs.Held.{Held, Holding, IsInodeNumber}
-use Rattle.nl_tree.specs.Overlays.{HasOrderedPages, IsOrderly, is_shown, over_changed, over_if_slot, over_slot}
+use Rattle.nl_tree.specs.Overlays.{HasOrderedPages, IsOrderly, is_shown, over_changed, over_if_slot}
 use Rattle.nl_tree.specs.Facts.Places.{one_slot, slot_kept, slot_written, tied}
+use Rattle.nl_tree.specs.Places.{Recounts, all_places, places_of}
+use Rattle.nl_tree.specs.Weights.{IsNoLess, capped}
+use Rattle.nl_tree.proofs.Weights.{inserted-few, others-stay}
 
 module _ (m n : BTreeMap ℕ Slot) (j : ℕ) (slot w : Slot) (writes : WritesThrough nat_cmp (nat_cmp j) m w n)
     (there : Some slot ≡ map.get nat_cmp m j) where
@@ -36,14 +39,24 @@ module _ (m n : BTreeMap ℕ Slot) (j : ℕ) (slot w : Slot) (writes : WritesThr
       by_test (inr ne) = subst (λ (o : Option Slot). IsSome o) (slot_kept m n j i w writes some ne) has
 
   -- an overlay stays orderly
-  pub written_orderly : (o : Overlay) → o.changed ≡ m → (HasOrderedPages slot.what → HasOrderedPages w.what)
-      → IsOrderly o → IsOrderly (record o { changed = n })
-  written_orderly o is keeps orderly = record {
+  pub written_orderly : (o : Overlay) (weight was now : ℕ) → o.changed ≡ m
+      → (HasOrderedPages slot.what → HasOrderedPages w.what)
+      → Recounts o.weight weight was now → was ≡ capped (places_of slot.what) → now ≡ capped (places_of w.what)
+      → IsOrderly o → IsOrderly (record o { changed = n; weight = weight })
+  written_orderly o weight was now is keeps recounts was_is now_is orderly = record {
     keys = writes.4;
     freed_numbers = orderly.freed_numbers;
     files = λ i s file at file_is. by_test i s file at file_is (cases_eq i j);
     inodes = λ i has.
         orderly.inodes i (ap (λ changed. is_some (map.get nat_cmp changed i)) is ∙ places_from i has);
+    counted =
+        let stay = others-stay m.entries (λ k. is_at (nat_cmp j) k) slot w there in
+        let before : IsNoLess (places_of slot.what + stay.rest) o.weight =
+        subst (λ (places : ℕ). IsNoLess places o.weight)
+        (ap (λ (changed : BTreeMap ℕ Slot). all_places changed.entries) is ∙ stay.before) orderly.counted in
+        subst (λ (places : ℕ). IsNoLess places weight)
+        (sym (ap (λ (es : List (ℕ × Slot)). all_places es) writes.0 ∙ stay.after))
+        (recounts (places_of slot.what) (places_of w.what) stay.rest was_is now_is before);
   }
     where
       by_test : (i : ℕ) (s : Slot) (file : FileBlocks) → map.get nat_cmp n i ≡ Some s → s.what ≡ File file
@@ -141,13 +154,22 @@ module _ (m n : BTreeMap ℕ Slot) (j : ℕ) (w : Slot) (updates : map.Updates n
       by_test (inr ne) = ap (λ (p : Option Slot). over_if_slot p (b i)) (inserted_others i ne)
 
   -- an overlay stays orderly
-  pub inserted_orderly : (o : Overlay) → o.changed ≡ m → map.IsOrdered nat_cmp n → IsInodeNumber j
-      → HasOrderedPages w.what → IsOrderly o → IsOrderly (record o { changed = n })
-  inserted_orderly o is ordered number pages orderly = record {
+  pub inserted_orderly : (o : Overlay) (weight more : ℕ) → o.changed ≡ m
+      → n.entries ≡ insert_entry nat_cmp m.entries j w → map.IsOrdered nat_cmp n → IsInodeNumber j
+      → HasOrderedPages w.what → more ≡ capped (places_of w.what) → weight ≡ capped (o.weight + more)
+      → IsOrderly o → IsOrderly (record o { changed = n; weight = weight })
+  inserted_orderly o weight more is entries ordered number pages more_is sum orderly = record {
     keys = ordered;
     freed_numbers = orderly.freed_numbers;
     files = λ i s file at file_is. file_at i s file at file_is (cases_eq i j);
     inodes = λ i has. number_at i has (cases_eq i j);
+    counted =
+        let few = inserted-few nat_cmp j w m.entries in
+        let before : IsNoLess (all_places m.entries) o.weight =
+        subst (λ (changed : BTreeMap ℕ Slot). IsNoLess (all_places changed.entries) o.weight) is
+        orderly.counted in
+        subst (λ (es : List (ℕ × Slot)). IsNoLess (all_places es) weight) (sym entries)
+        (omega (arith, few, before, more_is, sum));
   }
     where
       file_at : (i : ℕ) (s : Slot) (file : FileBlocks) → map.get nat_cmp n i ≡ Some s → s.what ≡ File file

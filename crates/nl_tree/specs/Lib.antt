@@ -14,5 +14,6 @@ pub mod CurrentTrees
 pub mod FirstTree
 pub mod Changing
 pub mod Weights
+pub mod Places
 pub mod Facts
 pub mod Private

@@ -16,6 +16,8 @@ use Rattle.nl_tree.specs.declared.listing.Listing.{Listing}
 use Rattle.nl_tree.specs.Held.{Held, Holding, IsInodeNumber, Stored, Listed, held_block}
 use Rattle.nl_tree.specs.Became.{Became, BecameDirectory, BecameFile, Current, Removed}
 use Rattle.nl_tree.specs.Records.{HasNamePlace, records_of}
+use Rattle.nl_tree.specs.Places.{all_places}
+use Rattle.nl_tree.specs.Weights.{IsNoLess}
 use Rattle.nl_tree.specs.Shown.{if_true, itself, key_alone, pair, shown_entries}
 
 -- ---- as lists
@@ -131,10 +133,11 @@ abbrev pub HasOrderedPages : Changed → Type 0
 HasOrderedPages what = (file : FileBlocks) → what ≡ File file → map.IsOrdered nat_cmp file.pages
 
 -- The inodes ascend, the numbers that are to be given first, and the new pages of each file. Each inode with
--- a place is one of a tree.
+-- a place is one of a tree. What is counted is no less than all places.
 pub record IsOrderly (o : Overlay) : Type 0 where
   pub keys : map.IsOrdered nat_cmp o.changed
   pub freed_numbers : map.IsOrdered nat_cmp o.freed
   pub files : (i : ℕ) (slot : Slot) (file : FileBlocks) → map.get nat_cmp o.changed i ≡ Some slot
       → slot.what ≡ File file → map.IsOrdered nat_cmp file.pages
   pub inodes : (i : ℕ) → HasSlot o i → IsInodeNumber i
+  pub counted : IsNoLess (all_places o.changed.entries) o.weight

@@ -19,6 +19,10 @@ abbrev pub total_weight : List (ℕ × Became) → ℕ
 total_weight [] = 0
 total_weight (e ∷ es) = weight_of e.1 + total_weight es
 
+-- as far as a number of 64 bits goes
+abbrev pub capped : ℕ → ℕ
+capped n = min n 18446744073709551615
+
 -- no less, as far as a number of 64 bits goes
 abbrev pub IsNoLess : ℕ → ℕ → Type 0
-IsNoLess n bound = min n 18446744073709551615 ≤ bound
+IsNoLess n bound = capped n ≤ bound

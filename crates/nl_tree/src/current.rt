@@ -76,5 +76,6 @@ impl CurrentTree {
             → CountsFree self.new (holding_over self.old.became b) }
     {
         self.overlay.changed.clear();
+        self.overlay.weight = 0;
     }
 }

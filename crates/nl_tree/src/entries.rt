@@ -14,6 +14,7 @@ ghost use Rattle.nl_tree.specs.Steps.{IsCreateRefused, IsCreated, with_held, wit
 
 use crate::overlay::{Changed, Overlay};
 use crate::tree_read::{Base, Link};
+use crate::weighing::recounted;
 use nl_types::{InodeNumber, Kind, VolError};
 use std::alloc::Global;
 
@@ -39,7 +40,13 @@ impl Overlay {
         ensures refused { IfErr result (λ e. e ≡ VolError.Memory) }
     {
         match self.changed.get_mut(&dir) {
-            Some(slot) => slot.what.reserve_name(alloc, name),
+            Some(slot) => {
+                let was = slot.what.weight();
+                let outcome = slot.what.reserve_name(alloc, name);
+                let now = slot.what.weight();
+                self.weight = recounted(self.weight, was, now);
+                outcome
+            }
             None => Ok(()),
         }
     }
@@ -55,8 +62,11 @@ impl Overlay {
         ensures rest { KeepsRest self.old self.new }
     {
         if let Some(slot) = self.changed.get_mut(&dir) {
+            let was = slot.what.weight();
             slot.live = true;
             slot.what.put(name, link);
+            let now = slot.what.weight();
+            self.weight = recounted(self.weight, was, now);
         }
     }
 
@@ -74,8 +84,11 @@ impl Overlay {
         ensures rest { KeepsRest self.old self.new }
     {
         if let Some(slot) = self.changed.get_mut(&dir) {
+            let was = slot.what.weight();
             slot.live = true;
             slot.what.take(name);
+            let now = slot.what.weight();
+            self.weight = recounted(self.weight, was, now);
         }
     }
 

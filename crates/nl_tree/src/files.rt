@@ -12,6 +12,7 @@ ghost use Rattle.nl_tree.specs.Steps.{with_held};
 
 use crate::overlay::{Changed, FileBlocks, Overlay};
 use crate::tree_read::Base;
+use crate::weighing::recounted;
 use nl_types::limits::FILE_BLOCK_LIMIT;
 use nl_types::{InodeNumber, Page, VolError};
 use std::alloc::Global;
@@ -56,7 +57,13 @@ impl Overlay {
         ensures refused { IfErr result (λ e. e ≡ VolError.Memory) }
     {
         match self.changed.get_mut(&inode) {
-            Some(slot) => slot.what.reserve_pages(first, end),
+            Some(slot) => {
+                let was = slot.what.weight();
+                let outcome = slot.what.reserve_pages(first, end);
+                let now = slot.what.weight();
+                self.weight = recounted(self.weight, was, now);
+                outcome
+            }
             None => Ok(()),
         }
     }
@@ -79,8 +86,11 @@ impl Overlay {
         ensures rest { KeepsRest self.old self.new }
     {
         if let Some(slot) = self.changed.get_mut(&inode) {
+            let was = slot.what.weight();
             slot.live = true;
             slot.what.put_pages(size, first, pages);
+            let now = slot.what.weight();
+            self.weight = recounted(self.weight, was, now);
         }
     }
 
@@ -132,8 +142,11 @@ impl Overlay {
         ensures rest { KeepsRest self.old self.new }
     {
         if let Some(slot) = self.changed.get_mut(&inode) {
+            let was = slot.what.weight();
             slot.live = true;
             slot.what.cut_at(count);
+            let now = slot.what.weight();
+            self.weight = recounted(self.weight, was, now);
         }
     }
 

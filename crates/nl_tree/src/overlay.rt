@@ -12,6 +12,7 @@ ghost use Rattle.nl_tree.specs.Steps.{with_held};
 
 use crate::listing::Listing;
 use crate::tree_read::{Base, Link};
+use crate::weighing::recounted;
 use nl_types::limits::{FIRST_INODE, ROOT_INODE};
 use nl_types::{InodeNumber, Page, VolError};
 use std::alloc::Global;
@@ -56,6 +57,8 @@ pub struct Overlay {
     pub mark: InodeNumber,
     /// How many paths there are beside the root.
     pub names: u64,
+    /// How many blocks a checkpoint writes of all inodes at most.
+    pub weight: usize,
 }
 
 impl Overlay {
@@ -69,6 +72,7 @@ impl Overlay {
             freed: BTreeMap::new(alloc),
             mark: InodeNumber::new(FIRST_INODE),
             names,
+            weight: 0,
         };
         overlay.ordered();
         overlay
@@ -82,16 +86,21 @@ impl Overlay {
         ensures refused { IfErr result (λ e. e ≡ VolError.Memory) }
     {
         let mut changed = BTreeMap::new(alloc);
-        let root = Slot {
-            live: true,
-            what: Changed::Dir(Listing::new(alloc)),
-        };
-        changed.insert(InodeNumber::new(ROOT_INODE), root)?;
+        let root = Changed::Dir(Listing::new(alloc));
+        let weight = root.weight();
+        changed.insert(
+            InodeNumber::new(ROOT_INODE),
+            Slot {
+                live: true,
+                what: root,
+            },
+        )?;
         let overlay = Overlay {
             changed,
             freed: BTreeMap::new(alloc),
             mark: InodeNumber::new(FIRST_INODE),
             names: 0,
+            weight,
         };
         overlay.ordered();
         Ok(overlay)
@@ -134,6 +143,7 @@ impl Overlay {
                 what: Changed::Gone,
             };
             self.changed.insert(inode, hidden)?;
+            self.weight = self.weight.saturating_add(1);
         }
         Ok(())
     }
@@ -164,7 +174,9 @@ impl Overlay {
             (map.get nat_cmp self.new.changed inode ≡ Some (record { live = false; what = what })) }
         ensures refused { IfErr result (λ e. e ≡ VolError.Memory) }
     {
+        let weight = what.weight();
         self.changed.insert(inode, Slot { live: false, what })?;
+        self.weight = self.weight.saturating_add(weight);
         Ok(())
     }
 
@@ -206,7 +218,10 @@ impl Overlay {
         ensures rest { KeepsRest self.old self.new }
     {
         if let Some(slot) = self.changed.get_mut(&inode) {
+            let was = slot.what.weight();
+            let now = what.weight();
             *slot = Slot { live: true, what };
+            self.weight = recounted(self.weight, was, now);
         }
     }
 }

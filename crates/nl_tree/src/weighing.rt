@@ -1,7 +1,8 @@
 //! How much changed since the latest checkpoint.
-ghost use Rattle.std.specs.Prelude.{◌≡◌, ◌≤◌, ◌<◌, ◌+◌, ◌/◌, ◌^◌};
-ghost use Rattle.nl_tree.specs.Overlays.{became_in, became_of};
-ghost use Rattle.nl_tree.specs.Weights.{IsNoLess, nodes_above, total_weight, weight_of};
+ghost use Rattle.std.specs.Prelude.{◌≡◌, ◌+◌, ◌<◌, ◌^◌};
+ghost use Rattle.nl_tree.specs.Overlays.{IsOrderly, became_in};
+ghost use Rattle.nl_tree.specs.Places.{Recounts, places_of};
+ghost use Rattle.nl_tree.specs.Weights.{IsNoLess, capped, nodes_above, total_weight};
 
 use crate::current::CurrentTree;
 use crate::overlay::{Changed, Overlay};
@@ -16,15 +17,26 @@ fn nodes_above(blocks: usize) -> usize
 
 /// The block of an inode, so many new blocks, and the nodes above so many blocks in all.
 fn weight_with(new: usize, blocks: usize) -> usize
-    ensures { IsNoLess (1 + new + nodes_above blocks) result }
+    ensures { result ≡ capped (1 + new + nodes_above blocks) }
 {
     new.saturating_add(1 + nodes_above(blocks))
 }
 
+/// A sum in which one part weighed something else before. What does not fit in it any more stays so.
+pub(crate) fn recounted(sum: usize, was: usize, now: usize) -> usize
+    ensures { Recounts sum result was now }
+{
+    if sum < usize::MAX {
+        sum.saturating_sub(was).saturating_add(now)
+    } else {
+        sum
+    }
+}
+
 impl Changed {
-    /// How many blocks a checkpoint writes of the inode at most.
-    fn weight(&self) -> usize
-        ensures { IsNoLess (weight_of (became_of self.now)) result }
+    /// How many blocks a checkpoint writes of the inode at most. Places in which nothing shows count.
+    pub(crate) fn weight(&self) -> usize
+        ensures { result ≡ capped (places_of self.now) }
     {
         match self {
             Changed::Gone => 1,
@@ -35,21 +47,18 @@ impl Changed {
 }
 
 impl Overlay {
-    /// How many blocks a checkpoint writes of all inodes at most. It looks at each that changed.
+    /// How many blocks a checkpoint writes of all inodes at most.
     fn weight(&self) -> usize
+        requires { IsOrderly self.now }
         ensures { IsNoLess (total_weight (became_in self.now)) result }
     {
-        let mut weight = 0_usize;
-        for (_, slot) in self.changed.iter() {
-            weight = weight.saturating_add(slot.what.weight());
-        }
-        weight
+        self.weight
     }
 }
 
 impl CurrentTree {
     /// How many blocks a checkpoint of the tree writes at most, but for the nodes of the file of inodes. It
-    /// looks at each inode that changed, but at none of its blocks or names, and takes no memory.
+    /// is counted as inodes change, so this takes no time by what changed, and no memory.
     pub fn weight(&self) -> usize
         ensures { IsNoLess (total_weight self.now.became) result }
     {

@@ -101,7 +101,13 @@ returns-clause-orderly g c = λ is dir.
     let now =
     c.take_number.ensures.orderly
     (c.in_ok-add.ensures.orderly is dir (inr (number.first, number.last))) in
-    record { keys = now.keys; freed_numbers = now.freed_numbers; files = now.files; inodes = now.inodes }
+    record {
+      keys = now.keys;
+      freed_numbers = now.freed_numbers;
+      files = now.files;
+      inodes = now.inodes;
+      counted = now.counted;
+    }
 
 pub returns-clause-names : goal.returns-clause-names
 returns-clause-names g c = ap (λ n. n + 1) (c.take_number.ensures.names ∙ c.in_ok-add.ensures.rest.names)

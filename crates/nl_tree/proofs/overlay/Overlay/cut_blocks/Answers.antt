@@ -26,7 +26,9 @@ returns-in-Some-clause-orderly c =
     let slot = c.in-Some.slot.now in
     let written : Slot = record { live = true; what = c.cut_at.new.self } in
     written_orderly c.args.self.now.changed (c.get_mut.follows.lender written) c.args.inode slot written
-    (c.get_mut.follows.holds written) c.in-Some.ensures.value c.args.self.now refl c.cut_at.ensures.ordered
+    (c.get_mut.follows.holds written) c.in-Some.ensures.value c.args.self.now
+    c.recounted-self.result c.weight-was.result c.weight-now.result refl c.cut_at.ensures.ordered
+    c.recounted-self.ensures c.weight-was.ensures c.weight-now.ensures
 
 pub returns-in-Some-clause-rest : goal.returns-in-Some-clause-rest
 returns-in-Some-clause-rest c = record { freed = refl; mark = refl; names = refl }

@@ -5,6 +5,8 @@ use Rattle.std.proofs.lemmas.Result.{IfOk-from_err}
 use Rattle.nl_tree.specs.Became.{Current}
 use Rattle.nl_tree.specs.declared.overlay.Slot.{Slot}
 use Rattle.nl_tree.specs.Overlays.{over_if_slot, slot_shows}
+use Rattle.nl_tree.specs.Places.{all_places}
+use Rattle.nl_tree.specs.Weights.{IsNoLess}
 use Rattle.nl_tree.specs.Shown.{if_true, key_alone, pair, shown_entries}
 use Rattle.nl_tree.proofs.KeptPlaces.{place_inserted}
 use Rattle.nl_tree.proofs.WrittenSlots.{inserted_orderly, inserted_others, inserted_still}
@@ -21,6 +23,8 @@ returns-in_err-insert-clause-orderly c = λ is _ _. record {
   inodes = λ i has.
       is.inodes i (subst
       (λ (es : List (ℕ × Slot)). IsSome (lookup (is_at (nat_cmp i)) es)) c.in_err-insert.ensures.err has);
+  counted = subst (λ (es : List (ℕ × Slot)). IsNoLess (all_places es) c.args.self.now.weight)
+      (sym c.in_err-insert.ensures.err) is.counted;
 }
 
 pub returns-in_err-insert-clause-same : goal.returns-in_err-insert-clause-same
@@ -72,8 +76,9 @@ returns-clause-place c = c.in_ok-insert.ensures.updates.1
 pub returns-clause-orderly : goal.returns-clause-orderly
 returns-clause-orderly c = λ is number pages.
     inserted_orderly c.args.self.now.changed c.insert.new.self c.args.inode
-    (record { live = false; what = c.args.what }) c.in_ok-insert.ensures.updates c.args.self.now refl
-    c.in_ok-insert.ensures.ordered number pages is
+    (record { live = false; what = c.args.what }) c.in_ok-insert.ensures.updates c.args.self.now
+    c.saturating_add-self.result c.weight-weight.result refl c.in_ok-insert.ensures.entries c.in_ok-insert.ensures.ordered
+    number pages c.weight-weight.ensures c.saturating_add-self.ensures is
 
 pub returns-clause-still : goal.returns-clause-still
 returns-clause-still c =

@@ -8,6 +8,8 @@ use Rattle.std.proofs.lemmas.Result.{IfOk-from_err}
 use Rattle.nl_tree.specs.Became.{Current}
 use Rattle.nl_tree.specs.declared.overlay.Slot.{Slot}
 use Rattle.nl_tree.specs.Overlays.{is_shown, over_if_slot, slot_shows}
+use Rattle.nl_tree.specs.Places.{all_places}
+use Rattle.nl_tree.specs.Weights.{IsNoLess}
 use Rattle.nl_tree.specs.Shown.{if_true, key_alone, pair, shown_entries}
 use Rattle.nl_tree.proofs.KeptPlaces.{place_inserted}
 use Rattle.nl_tree.proofs.WrittenSlots.{inserted_orderly, inserted_still}
@@ -42,6 +44,8 @@ returns-in_err-insert-clause-orderly c = λ is _. record {
   inodes = λ i has.
       is.inodes i (subst
       (λ (es : List (ℕ × Slot)). IsSome (lookup (is_at (nat_cmp i)) es)) c.in_err-insert.ensures.err has);
+  counted = subst (λ (es : List (ℕ × Slot)). IsNoLess (all_places es) c.args.self.now.weight)
+      (sym c.in_err-insert.ensures.err) is.counted;
 }
 
 pub returns-in_err-insert-clause-same : goal.returns-in_err-insert-clause-same
@@ -89,8 +93,9 @@ returns-in_ok-insert-clause-place c = ap is_some c.in_ok-insert.ensures.updates.
 pub returns-in_ok-insert-clause-orderly : goal.returns-in_ok-insert-clause-orderly
 returns-in_ok-insert-clause-orderly c = λ is number.
     inserted_orderly c.args.self.now.changed c.insert.new.self c.args.inode
-    (record { live = false; what = Gone }) c.in_ok-insert.ensures.updates c.args.self.now refl
-    c.in_ok-insert.ensures.ordered number (λ file is_file. absurd cc) is
+    (record { live = false; what = Gone }) c.in_ok-insert.ensures.updates c.args.self.now
+    c.saturating_add-self.result 1 refl c.in_ok-insert.ensures.entries c.in_ok-insert.ensures.ordered number
+    (λ file is_file. absurd cc) refl c.saturating_add-self.ensures is
 
 pub returns-in_ok-insert-clause-still : goal.returns-in_ok-insert-clause-still
 returns-in_ok-insert-clause-still c =

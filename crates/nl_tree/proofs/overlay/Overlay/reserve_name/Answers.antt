@@ -14,48 +14,49 @@ use Rattle.nl_tree.proofs.overlay.Overlay.reserve_name.Goals as goal
 pub returns-in-Some-clause-same : goal.returns-in-Some-clause-same
 returns-in-Some-clause-same c =
     let slot = c.in-Some.slot.now in
-    let written : Slot = record { live = slot.live; what = c.reserve_name.new.self } in
+    let written : Slot = record { live = slot.live; what = c.reserve_name-outcome.new.self } in
     ap {B = Current} (λ (es : List (ℕ × Became)). record (current_of c.args.self.now) { became = es })
     (ap (λ es. shown_entries pair slot_shows es) (c.get_mut.follows.holds written).0
-    ∙ kept_change c.args.self.now.changed.entries _ slot c.reserve_name.new.self
-    c.in-Some.ensures.value c.reserve_name.ensures.same)
+    ∙ kept_change c.args.self.now.changed.entries _ slot c.reserve_name-outcome.new.self
+    c.in-Some.ensures.value c.reserve_name-outcome.ensures.same)
 
 pub returns-in-Some-clause-place : goal.returns-in-Some-clause-place
 returns-in-Some-clause-place c = λ all has.
     let slot = c.in-Some.slot.now in
-    let written : Slot = record { live = slot.live; what = c.reserve_name.new.self } in
+    let written : Slot = record { live = slot.live; what = c.reserve_name-outcome.new.self } in
     let listed : IsListed slot.what all =
     subst (λ (s : Slot). IsListed s.what all)
     (sym (one_slot _ slot has.0 c.in-Some.ensures.value has.1)) has.2 in
-    on_ok_weaker c.reserve_name.result
+    on_ok_weaker c.reserve_name-outcome.result
     (λ named. (written, ((c.get_mut.follows.holds written).3 (ap is_some has.1)).1, named))
-    (c.reserve_name.ensures.place all listed)
+    (c.reserve_name-outcome.ensures.place all listed)
 
 pub returns-in-Some-clause-listings : goal.returns-in-Some-clause-listings
 returns-in-Some-clause-listings c = λ i all has.
     let slot = c.in-Some.slot.now in
-    let written : Slot = record { live = slot.live; what = c.reserve_name.new.self } in
+    let written : Slot = record { live = slot.live; what = c.reserve_name-outcome.new.self } in
     slot_still c.args.self.now.changed
-    (c.get_mut.follows.lender written) c.args.dir slot c.reserve_name.new.self
+    (c.get_mut.follows.lender written) c.args.dir slot c.reserve_name-outcome.new.self
     (λ what. IsListed what all) (c.get_mut.follows.holds written) c.in-Some.ensures.value
-    (c.reserve_name.ensures.listed all) i has
+    (c.reserve_name-outcome.ensures.listed all) i has
 
 pub returns-in-Some-clause-names : goal.returns-in-Some-clause-names
 returns-in-Some-clause-names c = λ i all other has.
     let slot = c.in-Some.slot.now in
-    let written : Slot = record { live = slot.live; what = c.reserve_name.new.self } in
+    let written : Slot = record { live = slot.live; what = c.reserve_name-outcome.new.self } in
     slot_still c.args.self.now.changed
-    (c.get_mut.follows.lender written) c.args.dir slot c.reserve_name.new.self
+    (c.get_mut.follows.lender written) c.args.dir slot c.reserve_name-outcome.new.self
     (λ what. IsListedWith what all other) (c.get_mut.follows.holds written) c.in-Some.ensures.value
-    (c.reserve_name.ensures.names all other) i has
+    (c.reserve_name-outcome.ensures.names all other) i has
 
 pub returns-in-Some-clause-orderly : goal.returns-in-Some-clause-orderly
 returns-in-Some-clause-orderly c =
     let slot = c.in-Some.slot.now in
-    let written : Slot = record { live = slot.live; what = c.reserve_name.new.self } in
+    let written : Slot = record { live = slot.live; what = c.reserve_name-outcome.new.self } in
     written_orderly c.args.self.now.changed (c.get_mut.follows.lender written) c.args.dir slot written
-    (c.get_mut.follows.holds written) c.in-Some.ensures.value c.args.self.now refl
-    c.reserve_name.ensures.ordered
+    (c.get_mut.follows.holds written) c.in-Some.ensures.value c.args.self.now
+    c.recounted-self.result c.weight-was.result c.weight-now.result refl c.reserve_name-outcome.ensures.ordered
+    c.recounted-self.ensures c.weight-was.ensures c.weight-now.ensures
 
 pub returns-in-Some-clause-rest : goal.returns-in-Some-clause-rest
 returns-in-Some-clause-rest c = record { freed = refl; mark = refl; names = refl }
@@ -63,13 +64,13 @@ returns-in-Some-clause-rest c = record { freed = refl; mark = refl; names = refl
 pub returns-in-Some-clause-still : goal.returns-in-Some-clause-still
 returns-in-Some-clause-still c =
     let slot = c.in-Some.slot.now in
-    let written : Slot = record { live = slot.live; what = c.reserve_name.new.self } in
+    let written : Slot = record { live = slot.live; what = c.reserve_name-outcome.new.self } in
     written_still c.args.self.now.changed
-    (c.get_mut.follows.lender written) c.args.dir slot c.reserve_name.new.self
-    (c.get_mut.follows.holds written) c.in-Some.ensures.value c.reserve_name.ensures.over
+    (c.get_mut.follows.lender written) c.args.dir slot c.reserve_name-outcome.new.self
+    (c.get_mut.follows.holds written) c.in-Some.ensures.value c.reserve_name-outcome.ensures.over
 
 pub returns-in-Some-clause-refused : goal.returns-in-Some-clause-refused
-returns-in-Some-clause-refused c = c.reserve_name.ensures.refused
+returns-in-Some-clause-refused c = c.reserve_name-outcome.ensures.refused
 
 pub returns-in-None-clause-orderly : goal.returns-in-None-clause-orderly
 returns-in-None-clause-orderly c = λ is.
@@ -88,7 +89,7 @@ returns-in-None-clause-place c = λ all has.
 pub returns-in-Some-clause-places : goal.returns-in-Some-clause-places
 returns-in-Some-clause-places c =
     let slot = c.in-Some.slot.now in
-    let written : Slot = record { live = slot.live; what = c.reserve_name.new.self } in
+    let written : Slot = record { live = slot.live; what = c.reserve_name-outcome.new.self } in
     places_stay c.args.self.now.changed (c.get_mut.follows.lender written) c.args.dir slot written
     (c.get_mut.follows.holds written) c.in-Some.ensures.value
 

@@ -37,6 +37,7 @@ returns-in_err-insert-clause-orderly c = λ is. record {
   freed_numbers = c.in_err-insert.ensures.ordered;
   files = is.files;
   inodes = is.inodes;
+  counted = is.counted;
 }
 
 pub returns-in_err-insert-clause-same : goal.returns-in_err-insert-clause-same
@@ -71,6 +72,7 @@ returns-in_ok-insert-clause-orderly c = λ is. record {
   freed_numbers = c.in_ok-insert.ensures.ordered;
   files = is.files;
   inodes = is.inodes;
+  counted = is.counted;
 }
 
 pub returns-in_ok-insert-clause-changed : goal.returns-in_ok-insert-clause-changed

@@ -15,35 +15,36 @@ use Rattle.nl_tree.proofs.overlay.Overlay.reserve_pages.Goals as goal
 pub returns-in-Some-clause-same : goal.returns-in-Some-clause-same
 returns-in-Some-clause-same c =
     let slot = c.in-Some.slot.now in
-    let written : Slot = record { live = slot.live; what = c.reserve_pages.new.self } in
+    let written : Slot = record { live = slot.live; what = c.reserve_pages-outcome.new.self } in
     ap {B = Current} (λ (es : List (ℕ × Became)). record (current_of c.args.self.now) { became = es })
     (ap (λ es. shown_entries pair slot_shows es) (c.get_mut.follows.holds written).0
-    ∙ kept_change c.args.self.now.changed.entries _ slot c.reserve_pages.new.self
-    c.in-Some.ensures.value c.reserve_pages.ensures.same)
+    ∙ kept_change c.args.self.now.changed.entries _ slot c.reserve_pages-outcome.new.self
+    c.in-Some.ensures.value c.reserve_pages-outcome.ensures.same)
 
 pub returns-in-Some-clause-place : goal.returns-in-Some-clause-place
 returns-in-Some-clause-place c = λ b size blocks has.
     let slot = c.in-Some.slot.now in
-    let written : Slot = record { live = slot.live; what = c.reserve_pages.new.self } in
+    let written : Slot = record { live = slot.live; what = c.reserve_pages-outcome.new.self } in
     let shows : ShowsFile slot.what (b c.args.inode) size blocks =
     subst (λ (s : Slot). ShowsFile s.what (b c.args.inode) size blocks)
     (sym (one_slot _ slot has.0 c.in-Some.ensures.value has.1)) has.2 in
-    on_ok_weaker c.reserve_pages.result
+    on_ok_weaker c.reserve_pages-outcome.result
     (λ places. (
       written,
       slot_written c.args.self.now.changed (c.get_mut.follows.lender written) c.args.inode written
           (c.get_mut.follows.holds written) (ap is_some has.1),
       places,
     ))
-    (c.reserve_pages.ensures.place (b c.args.inode) size blocks shows)
+    (c.reserve_pages-outcome.ensures.place (b c.args.inode) size blocks shows)
 
 pub returns-in-Some-clause-orderly : goal.returns-in-Some-clause-orderly
 returns-in-Some-clause-orderly c =
     let slot = c.in-Some.slot.now in
-    let written : Slot = record { live = slot.live; what = c.reserve_pages.new.self } in
+    let written : Slot = record { live = slot.live; what = c.reserve_pages-outcome.new.self } in
     written_orderly c.args.self.now.changed (c.get_mut.follows.lender written) c.args.inode slot written
-    (c.get_mut.follows.holds written) c.in-Some.ensures.value c.args.self.now refl
-    c.reserve_pages.ensures.ordered
+    (c.get_mut.follows.holds written) c.in-Some.ensures.value c.args.self.now
+    c.recounted-self.result c.weight-was.result c.weight-now.result refl c.reserve_pages-outcome.ensures.ordered
+    c.recounted-self.ensures c.weight-was.ensures c.weight-now.ensures
 
 pub returns-in-Some-clause-rest : goal.returns-in-Some-clause-rest
 returns-in-Some-clause-rest c = record { freed = refl; mark = refl; names = refl }
@@ -51,13 +52,13 @@ returns-in-Some-clause-rest c = record { freed = refl; mark = refl; names = refl
 pub returns-in-Some-clause-still : goal.returns-in-Some-clause-still
 returns-in-Some-clause-still c =
     let slot = c.in-Some.slot.now in
-    let written : Slot = record { live = slot.live; what = c.reserve_pages.new.self } in
+    let written : Slot = record { live = slot.live; what = c.reserve_pages-outcome.new.self } in
     written_still c.args.self.now.changed
-    (c.get_mut.follows.lender written) c.args.inode slot c.reserve_pages.new.self
-    (c.get_mut.follows.holds written) c.in-Some.ensures.value c.reserve_pages.ensures.over
+    (c.get_mut.follows.lender written) c.args.inode slot c.reserve_pages-outcome.new.self
+    (c.get_mut.follows.holds written) c.in-Some.ensures.value c.reserve_pages-outcome.ensures.over
 
 pub returns-in-Some-clause-refused : goal.returns-in-Some-clause-refused
-returns-in-Some-clause-refused c = c.reserve_pages.ensures.refused
+returns-in-Some-clause-refused c = c.reserve_pages-outcome.ensures.refused
 
 pub returns-in-None-clause-orderly : goal.returns-in-None-clause-orderly
 returns-in-None-clause-orderly c = λ is.

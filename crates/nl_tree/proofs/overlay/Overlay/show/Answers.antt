@@ -7,8 +7,9 @@ pub returns-in-Some-clause-orderly : goal.returns-in-Some-clause-orderly
 returns-in-Some-clause-orderly c = λ is ordered.
     let written : Slot = record { live = true; what = c.args.what } in
     written_orderly c.args.self.now.changed (c.get_mut.follows.lender written) c.args.inode
-    c.in-Some.slot.now written (c.get_mut.follows.holds written) c.in-Some.ensures.value c.args.self.now refl
-    (λ _. ordered) is
+    c.in-Some.slot.now written (c.get_mut.follows.holds written) c.in-Some.ensures.value c.args.self.now
+    c.recounted-self.result c.weight-was.result c.weight-now.result refl (λ _. ordered) c.recounted-self.ensures c.weight-was.ensures
+    c.weight-now.ensures is
 
 pub returns-in-Some-clause-shown : goal.returns-in-Some-clause-shown
 returns-in-Some-clause-shown c = λ b i.

@@ -1,10 +1,9 @@
-use Rattle.nl_tree.proofs.Weights.{weigh-next}
+use Rattle.std.proofs.Common.{arith}
+use Rattle.nl_tree.proofs.Weights.{all-shown}
 use Rattle.nl_tree.proofs.overlay.Overlay.weight.Goals as goal
 
-pub loop-slot-preserved : goal.loop-slot-preserved
-loop-slot-preserved c = record {
-  all =
-      weigh-next _ c.loop-slot.weight c.weight.result c.saturating_add-weight.result c.loop-slot.slot-iterator
-      c.next.new.self _ c.in-Some.ensures.steps c.loop-slot.invariant.all c.weight.ensures
-      c.saturating_add-weight.ensures;
-}
+pub returns : goal.returns
+returns c =
+    let few = all-shown c.args.self.now.changed.entries in
+    let counted = c.requires.counted in
+    omega (arith, few, counted)
