@@ -67,14 +67,14 @@ pub struct Pair {
 
 /// What two kept checkpoints show, but for the bytes of files, and all that differs.
 #[derive(Drop)]
-pub struct Compared {
-    pub old: HostTree,
-    pub new: HostTree,
-    pub all: Items<(Path, HostDifference)>,
+struct Compared {
+    old: HostTree,
+    new: HostTree,
+    all: Items<(Path, HostDifference)>,
 }
 
 /// Compares two kept checkpoints. It reads manifests, and no file that both have by one inode.
-pub fn compare_pair(alloc: Global, view: &View<'_>, pair: Pair) -> Result<Compared, Fault> {
+fn compare_pair(alloc: Global, view: &View<'_>, pair: Pair) -> Result<Compared, Fault> {
     let of_objects = match checkpoint_differences(alloc, view.volume, pair.old, pair.new) {
         Ok(all) => all,
         Err(error) => return Err(tree_fault(alloc, view.path, error)),

@@ -14,18 +14,18 @@ use std::alloc::Global;
 use std::io::Write;
 
 /// The blocks of a segment, or of all of them. A block is in one of these counts, which sum to all blocks.
-#[derive(Clone, Copy, Debug, PartialEq, Eq)]
-pub struct Blocks {
+#[derive(Clone, Copy, Drop, Serialize)]
+struct Blocks {
     /// In segments without logs.
-    pub clean: u64,
+    clean: u64,
     /// Of the payload of logs, what a kept checkpoint reaches, or the tables of the volume.
-    pub needed: u64,
+    needed: u64,
     /// What else logs have as payload, which cleaning gives back.
-    pub dead: u64,
+    dead: u64,
     /// What logs begin with.
-    pub summaries: u64,
+    summaries: u64,
     /// Behind the last log of a segment.
-    pub unused: u64,
+    unused: u64,
 }
 
 const NO_BLOCKS: Blocks = Blocks {
@@ -61,9 +61,9 @@ impl Blocks {
 
 /// A segment, and what its blocks are.
 #[derive(Clone, Copy)]
-pub struct SegmentUse {
-    pub state: SegmentState,
-    pub blocks: Blocks,
+struct SegmentUse {
+    state: SegmentState,
+    blocks: Blocks,
 }
 
 fn use_of(pen: &Pen<MemDevice>, segment: Segment) -> Result<SegmentUse, VolError> {
@@ -88,11 +88,7 @@ fn use_of(pen: &Pen<MemDevice>, segment: Segment) -> Result<SegmentUse, VolError
 }
 
 /// What each segment of a volume is in use for. `path` is where its image stands.
-pub fn segment_uses(
-    alloc: Global,
-    path: &str,
-    pen: &Pen<MemDevice>,
-) -> Result<Vec<SegmentUse>, Fault> {
+fn segment_uses(alloc: Global, path: &str, pen: &Pen<MemDevice>) -> Result<Vec<SegmentUse>, Fault> {
     let mut uses = Vec::new(alloc);
     let count = u32::try_from(pen.segments().sustat().segments).unwrap_or(0);
     for number in 0..count {
@@ -104,18 +100,53 @@ pub fn segment_uses(
     Ok(uses)
 }
 
+fn state_word(state: SegmentState) -> &'static str {
+    match state {
+        SegmentState::Clean => "clean",
+        SegmentState::Dirty => "with logs",
+        SegmentState::Active => "active",
+        SegmentState::Error => "in error",
+    }
+}
+
+/// A segment, and what its blocks are.
+#[derive(Drop, Serialize)]
+struct SegmentObject {
+    state: &'static str,
+    #[serde(flatten)]
+    blocks: Blocks,
+}
+
+/// Tells each segment of a volume by an object, in the order of their numbers.
+pub fn tell_segments<W: Write>(
+    alloc: Global,
+    path: &str,
+    pen: &Pen<MemDevice>,
+    printer: &mut Printer<W>,
+) -> Result<(), Fault> {
+    let uses = segment_uses(alloc, path, pen)?;
+    for used in uses.as_slice() {
+        let told = SegmentObject {
+            state: state_word(used.state),
+            blocks: used.blocks,
+        };
+        object(alloc, &told, printer)?;
+    }
+    Ok(())
+}
+
 /// How a volume is in use.
 #[derive(Clone, Copy)]
-pub struct VolumeUse {
-    pub segments: u64,
-    pub clean_segments: u64,
+struct VolumeUse {
+    segments: u64,
+    clean_segments: u64,
     /// Segments to which a write failed.
-    pub failed_segments: u64,
-    pub blocks: Blocks,
+    failed_segments: u64,
+    blocks: Blocks,
 }
 
 impl VolumeUse {
-    pub fn of(uses: &[SegmentUse]) -> VolumeUse {
+    fn of(uses: &[SegmentUse]) -> VolumeUse {
         let mut whole = VolumeUse {
             segments: uses.len() as u64,
             clean_segments: 0,
@@ -146,11 +177,8 @@ struct UseObject {
     failed_segments: u64,
     block_bytes: u64,
     blocks: u64,
-    clean: u64,
-    needed: u64,
-    dead: u64,
-    summaries: u64,
-    unused: u64,
+    #[serde(flatten)]
+    kinds: Blocks,
     /// How many blocks the next backup can write: as the volume is, and where it grows as far as it can.
     room: u64,
     room_grown: u64,
@@ -163,11 +191,7 @@ fn object_of(whole: VolumeUse, blocks: u64, capacity: Capacity) -> UseObject {
         failed_segments: whole.failed_segments,
         block_bytes: BLOCK_SIZE as u64,
         blocks,
-        clean: whole.blocks.clean,
-        needed: whole.blocks.needed,
-        dead: whole.blocks.dead,
-        summaries: whole.blocks.summaries,
-        unused: whole.blocks.unused,
+        kinds: whole.blocks,
         room: capacity.present as u64,
         room_grown: capacity.grown as u64,
     }

@@ -10,7 +10,7 @@ use serde::Serialize;
 use std::alloc::{AllocError, Global};
 use std::io::Write;
 
-/// Writes an object and the end of the line.
+/// Writes an object and the end of the line. `<` is escaped, so that no text ends an element of HTML around it.
 pub fn object<T: Serialize, W: Write>(
     alloc: Global,
     value: &T,
@@ -18,6 +18,7 @@ pub fn object<T: Serialize, W: Write>(
 ) -> Result<(), Fault> {
     match serde_json::to_string(alloc, value) {
         Ok(text) => {
+            let text = text.replace(alloc, '<', "\\u003c")?;
             printer.out.write_all(text.as_bytes())?;
             printer.line()?;
             Ok(())
@@ -61,7 +62,7 @@ pub struct CheckpointObject<'a> {
 }
 
 /// What a kind of checkpoint is called.
-pub fn kind_word(row: &Row) -> &'static str {
+fn kind_word(row: &Row) -> &'static str {
     match row.mode {
         Mode::Snapshot => "snapshot",
         Mode::Plain if is_minor(row) => "minor",

@@ -59,6 +59,23 @@ pub struct Counted {
     pub amount: Amount,
 }
 
+/// Tells of a checkpoint by an object.
+pub fn tell_object<W: Write>(
+    alloc: Global,
+    clock: Clock<'_>,
+    row: &Row,
+    pin: Option<&[u8]>,
+    counted: Option<&Counted>,
+    printer: &mut Printer<W>,
+) -> Result<(), Fault> {
+    let date = shown(alloc, clock.zone, row.stamp)?;
+    let mut told = CheckpointObject::of(alloc, row, date.as_str(), pin)?;
+    if let Some(counted) = counted {
+        told = told.with_amount(counted.amount.paths, counted.amount.bytes);
+    }
+    object(alloc, &told, printer)
+}
+
 /// What a command asks that looks at a volume.
 #[derive(Clone, Copy)]
 struct Asked<'q, 'm> {
@@ -97,22 +114,6 @@ impl Asked<'_, '_> {
         Ok(())
     }
 
-    /// Tells of a checkpoint by an object.
-    fn tell_object<W: Write>(
-        &self,
-        row: &Row,
-        pin: Option<&[u8]>,
-        counted: Option<&Counted>,
-        printer: &mut Printer<W>,
-    ) -> Result<(), Fault> {
-        let date = shown(self.alloc, self.clock.zone, row.stamp)?;
-        let mut told = CheckpointObject::of(self.alloc, row, date.as_str(), pin)?;
-        if let Some(counted) = counted {
-            told = told.with_amount(counted.amount.paths, counted.amount.bytes);
-        }
-        object(self.alloc, &told, printer)
-    }
-
     /// Tells of a checkpoint by a line.
     fn tell_line<W: Write>(
         &self,
@@ -146,7 +147,7 @@ impl Asked<'_, '_> {
         let counted = self.counted(before.as_ref(), row.number)?;
         let pin = pins.and_then(|pins| pins.text(row.number));
         if self.matches.get_flag("json") {
-            self.tell_object(row, pin, counted.as_ref(), printer)?;
+            tell_object(self.alloc, self.clock, row, pin, counted.as_ref(), printer)?;
         } else {
             self.tell_line(row, pin, counted.as_ref(), printer)?;
         }

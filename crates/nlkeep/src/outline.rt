@@ -1,13 +1,15 @@
 //! `tree` and `du`: a checkpoint's tree with its branches drawn, and how many bytes its folders have.
 use crate::asking::{Clock, Outcome, word};
 use crate::faults::{Fault, fault_at};
+use crate::json::{object, path_text};
 use crate::parts::path_said;
 use crate::printing::{Printer, Seen, tell_refused};
 use crate::views::View;
 use clap::ArgMatches;
-use nl_folders::{Name, Path, begins_with, copied};
+use nl_folders::{Name, Path, begins_with};
 use nl_manifests::{HostObject, Opened};
 use nl_types::{CheckpointNumber, Items};
+use serde::Serialize;
 use std::alloc::{AllocError, Global};
 use std::io::{self, Write};
 
@@ -230,18 +232,19 @@ pub fn du<W: Write>(
 }
 
 /// A folder, and how many bytes all files have that lie in it, at any depth.
-#[derive(Drop)]
-pub struct FolderSum {
-    pub path: Path,
-    pub bytes: u64,
+#[derive(Drop, Serialize)]
+struct FolderObject {
+    folder: String,
+    bytes: u64,
 }
 
-/// All folders of a kept checkpoint, in the order of their paths.
-pub fn folder_sums(
+/// Tells each folder of a kept checkpoint by an object, in the order of their paths.
+pub fn tell_folders<W: Write>(
     alloc: Global,
     view: &View<'_>,
     number: CheckpointNumber,
-) -> Result<Vec<FolderSum>, Fault> {
+    printer: &mut Printer<W>,
+) -> Result<(), Fault> {
     let shown = Shown {
         number,
         opened: view.shown(alloc, number)?,
@@ -249,14 +252,14 @@ pub fn folder_sums(
     };
     let all = shown.seen(alloc, view)?;
     let sums = sums(alloc, all.as_slice())?;
-    let mut folders = Vec::new(alloc);
     for (below, sum) in all.iter().zip(sums.iter()) {
         if is_folder(*below) {
-            folders.push(FolderSum {
-                path: copied(alloc, below.path)?,
+            let told = FolderObject {
+                folder: path_text(alloc, below.path)?,
                 bytes: *sum,
-            })?;
+            };
+            object(alloc, &told, printer)?;
         }
     }
-    Ok(folders)
+    Ok(())
 }

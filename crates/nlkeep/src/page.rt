@@ -1,217 +1,350 @@
-//! What a page of HTML is made of: its head, texts that aren't ours, and the drawings of a volume.
-use crate::df::{SegmentUse, VolumeUse};
-use nl_types::SegmentState;
-use std::alloc::Global;
-use std::io::{self, Write};
+//! The page of HTML that `show` writes, but for its data. They stand between two constant parts, an object of
+//! JSON a line, and the script behind them draws all that is told of the volume.
 
-/// What all looks like, in light and in dark.
-const STYLE: &str = "\
-:root{color-scheme:light dark;--back:#fff;--text:#1b1f24;--quiet:#57606a;--line:#d0d7de;--clean:#e8ecf1;\
---needed:#2563eb;--dead:#d97706;--other:#94a3b8;--error:#dc2626;--snapshot:#2563eb;--plain:#0f766e;--minor:#6b7280}\
-@media (prefers-color-scheme:dark){:root{--back:#14171b;--text:#e6e9ed;--quiet:#a3adba;--line:#3a424d;\
---clean:#262c34;--needed:#60a5fa;--dead:#f59e0b;--other:#64748b;--error:#f87171;--snapshot:#60a5fa;\
---plain:#2dd4bf;--minor:#9aa3af}}\
-body{margin:0 auto;max-width:64rem;padding:1rem;font:16px/1.5 system-ui,sans-serif;background:var(--back);\
-color:var(--text)}h1{font-size:1.5rem;overflow-wrap:anywhere}h2{font-size:1.2rem;margin-top:2rem}\
-nav a{margin-right:1rem}a{color:var(--needed)}:focus-visible{outline:3px solid var(--needed);outline-offset:2px}\
-svg{display:block;width:100%;height:auto}svg text{fill:var(--quiet);font-size:14px}\
-table{border-collapse:collapse;width:100%}th,td{text-align:left;padding:.2rem .6rem;\
-border-bottom:1px solid var(--line);vertical-align:top;overflow-wrap:anywhere}td.n,th.n{text-align:right;\
-white-space:nowrap}td:nth-child(2){white-space:nowrap}\
-ul{margin:.2rem 0;padding-left:1.2rem}tr:target{outline:2px solid var(--needed)}\
-.snapshot{fill:var(--snapshot)}.plain{fill:var(--back);stroke:var(--plain);stroke-width:3}\
-.minor{fill:var(--minor)}.axis{stroke:var(--line)}.clean{fill:var(--clean)}.needed{fill:var(--needed)}\
-.dead{fill:var(--dead)}.other{fill:var(--other)}.error{fill:none;stroke:var(--error);stroke-width:14}\
-.key{display:inline-block;width:.8em;height:.8em;margin:0 .3em 0 1em;border-radius:2px}\
-.key.needed{background:var(--needed)}.key.dead{background:var(--dead)}.key.other{background:var(--other)}\
-.key.clean{background:var(--clean);border:1px solid var(--line)}.bar{background:var(--needed);height:.7rem;\
-min-width:1px;border-radius:2px}.quiet{color:var(--quiet)}";
+/// The page up to its data.
+pub const BEFORE: &str = r##"<!DOCTYPE html>
+<html lang="en">
+<head>
+<meta charset="utf-8">
+<meta name="viewport" content="width=device-width, initial-scale=1">
+<meta http-equiv="Content-Security-Policy"
+  content="default-src 'none'; style-src 'unsafe-inline'; script-src 'unsafe-inline'">
+<title>A volume of nlkeep</title>
+<style>
+:root {
+  color-scheme: light dark;
+  --back: #fff; --text: #1b1f24; --quiet: #57606a; --line: #d0d7de; --clean: #e8ecf1;
+  --needed: #2563eb; --dead: #d97706; --other: #94a3b8; --error: #dc2626; --plain: #0f766e; --minor: #6b7280;
+}
+@media (prefers-color-scheme: dark) {
+  :root {
+    --back: #14171b; --text: #e6e9ed; --quiet: #a3adba; --line: #3a424d; --clean: #262c34;
+    --needed: #60a5fa; --dead: #f59e0b; --other: #64748b; --error: #f87171; --plain: #2dd4bf;
+    --minor: #9aa3af;
+  }
+}
+body {
+  margin: 0 auto; max-width: 64rem; padding: 1rem; font: 16px/1.5 system-ui, sans-serif;
+  background: var(--back); color: var(--text);
+}
+h1 { font-size: 1.5rem; overflow-wrap: anywhere }
+h2 { font-size: 1.2rem; margin-top: 2rem }
+nav a { margin-right: 1rem }
+a { color: var(--needed) }
+:focus-visible { outline: 3px solid var(--needed); outline-offset: 2px }
+svg { display: block; width: 100%; height: auto; overflow: visible }
+svg text { fill: var(--quiet); font-size: 14px }
+table { border-collapse: collapse; width: 100% }
+th, td {
+  text-align: left; padding: .2rem .6rem; border-bottom: 1px solid var(--line); vertical-align: top;
+  overflow-wrap: anywhere;
+}
+.n { text-align: right; white-space: nowrap }
+td:nth-child(2) { white-space: nowrap }
+ul { margin: .2rem 0; padding-left: 1.2rem }
+tr:target { outline: 2px solid var(--needed) }
+.quiet { color: var(--quiet) }
+.axis { stroke: var(--line) }
+.snapshot { fill: var(--needed) }
+.plain { fill: var(--back); stroke: var(--plain); stroke-width: 3 }
+.minor { fill: var(--minor) }
+.clean { fill: var(--clean) }
+.needed { fill: var(--needed) }
+.dead { fill: var(--dead) }
+.other { fill: var(--other) }
+.error { fill: none; stroke: var(--error); stroke-width: 14 }
+.key { display: inline-block; width: .8em; height: .8em; margin: 0 .3em 0 1em; border-radius: 2px }
+.key.needed { background: var(--needed) }
+.key.dead { background: var(--dead) }
+.key.other { background: var(--other) }
+.key.clean { background: var(--clean); border: 1px solid var(--line) }
+.share { width: 40% }
+.bar { background: var(--needed); height: .7rem; min-width: 1px; border-radius: 2px; margin-top: .4rem }
+</style>
+<noscript><style>nav, main { display: none }</style></noscript>
+</head>
+<body>
+<h1></h1>
+<noscript>
+<p>A script in this page draws it, and scripts are turned off. <code>nlkeep list --json</code>,
+<code>nlkeep diff --json</code>, <code>nlkeep df --json</code> and <code>nlkeep du</code> tell the same.</p>
+</noscript>
+<nav>
+<a href="#time">Timeline</a>
+<a href="#checkpoints">Checkpoints</a>
+<a href="#segments">Segments</a>
+<a href="#folders">Folders</a>
+</nav>
+<main>
+<section id="time" aria-label="Timeline">
+<h2>Timeline</h2>
+<p class="quiet">From above: snapshots, plain checkpoints, minor ones.</p>
+<svg viewBox="0 0 1000 120" aria-label="Timeline of checkpoints">
+<line class="axis" x1="0" x2="1000" y1="25" y2="25"/>
+<line class="axis" x1="0" x2="1000" y1="50" y2="50"/>
+<line class="axis" x1="0" x2="1000" y1="75" y2="75"/>
+</svg>
+</section>
+<section id="checkpoints" aria-label="Checkpoints">
+<h2>Checkpoints</h2>
+<table>
+<thead><tr><th class="n">Number</th><th>Date</th><th>Kind</th><th class="n">Paths</th><th class="n">Bytes</th>
+<th>Changes</th></tr></thead>
+<tbody></tbody>
+</table>
+</section>
+<section id="segments" aria-label="Segments">
+<h2>Segments</h2>
+<p></p>
+<p></p>
+<svg role="img" aria-label="Map of segments, of which a table follows"></svg>
+<details>
+<summary>The segments in a table</summary>
+<table>
+<thead><tr><th class="n">Segment</th><th>State</th><th class="n">Needed</th><th class="n">Dead</th>
+<th class="n">Summaries</th><th class="n">Clean or unused</th></tr></thead>
+<tbody></tbody>
+</table>
+</details>
+</section>
+<section id="folders" aria-label="Biggest folders of the current tree">
+<h2>Biggest folders of the current tree</h2>
+<table>
+<thead><tr><th>Folder</th><th class="n">Bytes</th><th class="share">Share</th></tr></thead>
+<tbody></tbody>
+</table>
+</section>
+</main>
+<script type="application/json" id="data">
+"##;
 
-/// A text that isn't ours.
-pub fn escaped<W: Write>(text: &str, out: &mut W) -> io::Result<()> {
-    for character in text.chars() {
-        match character {
-            '&' => out.write_all(b"&amp;")?,
-            '<' => out.write_all(b"&lt;")?,
-            '>' => out.write_all(b"&gt;")?,
-            '"' => out.write_all(b"&quot;")?,
-            _ if character.is_control() => write!(out, "\\u{{{:x}}}", u32::from(character))?,
-            _ => write!(out, "{character}")?,
-        }
-    }
-    Ok(())
+/// The page behind its data.
+pub const BEHIND: &str = r##"</script>
+<script>
+"use strict";
+
+// How many paths are listed of a checkpoint at most, and how many folders.
+const MOST_PATHS = 50;
+const MOST_FOLDERS = 20;
+
+const checkpoints = [];
+const segments = [];
+const folders = [];
+
+// ---- elements
+
+function find(selector) {
+  return document.querySelector(selector);
 }
 
-/// Bytes that may be no text.
-pub fn escaped_bytes<W: Write>(alloc: Global, bytes: &[u8], out: &mut W) -> io::Result<()> {
-    let shown = String::from_utf8_lossy(alloc, bytes)?;
-    escaped(shown.as_str(), out)
+// Control characters of names would not be seen.
+function visible(text) {
+  return String(text).replace(/\p{Cc}/gu, it => `\\u{${it.codePointAt(0).toString(16)}}`);
 }
 
-/// The beginning of the page of an image, with the ways to its parts.
-pub fn head<W: Write>(image: &str, out: &mut W) -> io::Result<()> {
-    out.write_all(b"<!DOCTYPE html>\n<html lang=\"en\">\n<head>\n<meta charset=\"utf-8\">\n")?;
-    out.write_all(
-        b"<meta name=\"viewport\" content=\"width=device-width, initial-scale=1\">\n<title>",
-    )?;
-    escaped(image, out)?;
-    write!(
-        out,
-        "</title>\n<style>{STYLE}</style>\n</head>\n<body>\n<h1>"
-    )?;
-    escaped(image, out)?;
-    out.write_all(b"</h1>\n<nav>")?;
-    for (part, name) in [
-        ("time", "Timeline"),
-        ("checkpoints", "Checkpoints"),
-        ("segments", "Segments"),
-        ("folders", "Folders"),
-    ] {
-        write!(out, "<a href=\"#{part}\">{name}</a>")?;
-    }
-    out.write_all(b"</nav>\n<main>\n")
+// Adds an element of the parent's kind, HTML or SVG.
+function add(parent, tag, attributes = {}, text = "") {
+  const made = document.createElementNS(parent.namespaceURI, tag);
+  for (const [name, value] of Object.entries(attributes)) {
+    made.setAttribute(name, value);
+  }
+  made.textContent = visible(text);
+  parent.append(made);
+  return made;
 }
 
-/// The beginning of a part.
-pub fn section<W: Write>(id: &str, title: &str, out: &mut W) -> io::Result<()> {
-    write!(
-        out,
-        "<section id=\"{id}\" aria-label=\"{title}\">\n<h2>{title}</h2>\n"
-    )
+function addNumber(row, value) {
+  add(row, "td", {class: "n"}, value);
 }
 
-pub fn end_section<W: Write>(out: &mut W) -> io::Result<()> {
-    out.write_all(b"</section>\n")
+// ---- the data
+
+// Each object tells by its fields what it is of. Changes follow the checkpoint that they are of.
+function read(line) {
+  const told = JSON.parse(line);
+  if ("checkpoint" in told) {
+    checkpoints.push({...told, changes: []});
+  } else if ("change" in told) {
+    checkpoints.at(-1).changes.push(told);
+  } else if ("state" in told) {
+    segments.push(told);
+  } else if ("folder" in told) {
+    folders.push(told);
+  } else {
+    document.title = visible(told.image);
+    find("h1").textContent = visible(told.image);
+  }
 }
 
-pub fn foot<W: Write>(out: &mut W) -> io::Result<()> {
-    out.write_all(b"</main>\n</body>\n</html>\n")
+function sumOf(all, field) {
+  return all.reduce((sum, it) => sum + it[field], 0);
+}
+
+// ---- the timeline
+
+// How high a checkpoint of a kind stands, and how great its mark is.
+const MARKS = {snapshot: [25, 8], plain: [50, 7], minor: [75, 4]};
+
+function kindOf(checkpoint) {
+  const text = checkpoint.text ? `: ${checkpoint.text}` : "";
+  return checkpoint.kind + (checkpoint.pinned ? `, pinned${text}` : "");
+}
+
+// Draws the mark of a checkpoint, which leads to its row.
+function drawMark(map, checkpoint, first, last) {
+  const gone = Math.max(0, checkpoint.seconds - first) / Math.max(1, last - first);
+  const [height, size] = MARKS[checkpoint.kind];
+  const link = add(map, "a", {href: `#c${checkpoint.checkpoint}`});
+  add(link, "title", {}, `${checkpoint.checkpoint}, ${checkpoint.date}: ${kindOf(checkpoint)}`);
+  add(link, "circle", {class: checkpoint.kind, cx: 20 + Math.round(960 * gone), cy: height, r: size});
+}
+
+// A volume begins at moment 0, so long before all else that the timeline doesn't go back to that.
+function drawTimeline() {
+  const map = find("#time svg");
+  const last = checkpoints.at(-1);
+  const first = checkpoints.find(it => it.seconds > 0) ?? last;
+  for (const it of checkpoints) {
+    drawMark(map, it, first.seconds, last.seconds);
+  }
+  add(map, "text", {x: 20, y: 110}, first.date);
+  add(map, "text", {x: 980, y: 110, "text-anchor": "end"}, last.date);
+}
+
+// ---- checkpoints
+
+// How many bytes the files have that came or were written anew.
+function newBytes(changes) {
+  const written = changes.filter(it => ["added", "rewritten", "replaced"].includes(it.change));
+  return written.reduce((sum, it) => sum + (it.new?.bytes ?? 0), 0);
+}
+
+function countsOf(changes) {
+  const added = changes.filter(it => it.change === "added").length;
+  const removed = changes.filter(it => it.change === "removed").length;
+  const changed = changes.length - added - removed;
+  return `${added} added, ${removed} removed, ${changed} changed, ${newBytes(changes)} bytes new`;
+}
+
+function listChanges(cell, changes) {
+  const details = add(cell, "details");
+  add(details, "summary", {}, countsOf(changes));
+  const list = add(details, "ul");
+  for (const it of changes.slice(0, MOST_PATHS)) {
+    add(list, "li", {}, `${it.change} ${it.path}`);
+  }
+  if (changes.length > MOST_PATHS) {
+    add(list, "li", {}, `and ${changes.length - MOST_PATHS} more`);
+  }
+}
+
+function addCheckpoint(body, checkpoint, isFirst) {
+  const row = add(body, "tr", {id: `c${checkpoint.checkpoint}`});
+  addNumber(row, checkpoint.checkpoint);
+  add(row, "td", {}, checkpoint.date);
+  add(row, "td", {}, kindOf(checkpoint));
+  addNumber(row, checkpoint.paths);
+  addNumber(row, checkpoint.bytes);
+  if (isFirst || checkpoint.changes.length === 0) {
+    add(row, "td", {}, isFirst ? "the first one" : "none");
+  } else {
+    listChanges(add(row, "td"), checkpoint.changes);
+  }
+}
+
+// Each is compared with the one before that isn't minor.
+function fillCheckpoints() {
+  let isFirst = true;
+  for (const it of checkpoints) {
+    addCheckpoint(find("#checkpoints tbody"), it, isFirst);
+    isFirst = isFirst && it.kind === "minor";
+  }
 }
 
 // ---- segments
 
-/// Up to so many segments the map has short rows, in which they are larger.
-const FEW: usize = 256;
+// How wide a segment is drawn, and how wide with the gap behind it.
+const SIDE = 120;
+const STEP = 140;
 
-/// How many segments stand in a row of the map.
-fn columns(count: usize) -> u64 {
-    if count <= FEW { 32 } else { 64 }
+function unusedOf(segment) {
+  return segment.clean + segment.unused;
 }
 
-/// How wide a segment is drawn, and with the gap behind it.
-const SIDE: u64 = 120;
-
-const STEP: u64 = 140;
-
-fn state_word(state: SegmentState) -> &'static str {
-    match state {
-        SegmentState::Clean => "clean",
-        SegmentState::Dirty => "with logs",
-        SegmentState::Active => "active",
-        SegmentState::Error => "in error",
-    }
+// A segment has each part from above, as high as its share.
+function drawSegment(map, segment, place, columns) {
+  const blocks = segment.needed + segment.dead + segment.summaries + unusedOf(segment);
+  const group = add(map, "g");
+  const corner = {x: (place % columns) * STEP, y: Math.floor(place / columns) * STEP};
+  add(group, "title", {}, `Segment ${place}, ${segment.state}: ${segment.needed} needed, `
+    + `${segment.dead} dead, ${segment.summaries} summaries of ${blocks} blocks`);
+  add(group, "rect", {...corner, class: "clean", width: SIDE, height: SIDE});
+  const parts = [["needed", segment.needed], ["dead", segment.dead], ["other", segment.summaries]];
+  let above = corner.y;
+  for (const [name, count] of parts) {
+    const height = Math.floor(count * SIDE / blocks);
+    add(group, "rect", {class: name, x: corner.x, y: above, width: SIDE, height});
+    above += height;
+  }
+  if (segment.state === "in error") {
+    add(group, "rect", {...corner, class: "error", width: SIDE, height: SIDE});
+  }
 }
 
-/// A part of a segment, which is drawn from a height on. Answers where the next one begins.
-fn layer<W: Write>(
-    class: &str,
-    corner: (u64, u64),
-    from: u64,
-    share: (u64, u64),
-    out: &mut W,
-) -> io::Result<u64> {
-    let (part, all) = share;
-    let height = part.saturating_mul(SIDE) / all.max(1);
-    if height > 0 {
-        let (x, y) = (corner.0, corner.1.saturating_add(from));
-        write!(
-            out,
-            "<rect class=\"{class}\" x=\"{x}\" y=\"{y}\" width=\"{SIDE}\" height=\"{height}\"/>"
-        )?;
-    }
-    Ok(from.saturating_add(height))
+// Few segments have short rows, in which they are larger.
+function drawSegments() {
+  const map = find("#segments svg");
+  const columns = segments.length <= 256 ? 32 : 64;
+  const rows = Math.ceil(segments.length / columns);
+  map.setAttribute("viewBox", `-10 -10 ${columns * STEP} ${rows * STEP + 10}`);
+  segments.forEach((it, place) => drawSegment(map, it, place, columns));
 }
 
-/// Where a segment stands in a map with so many of them in a row.
-fn corner_of(place: u64, columns: u64) -> (u64, u64) {
-    let columns = columns.max(1);
-    (
-        (place % columns).saturating_mul(STEP),
-        (place / columns).saturating_mul(STEP),
-    )
+// What the colours mean, and how many blocks each stands for.
+function tellSegments() {
+  const [key, states] = document.querySelectorAll("#segments p");
+  const unused = sumOf(segments, "clean") + sumOf(segments, "unused");
+  const parts = [["needed", "needed", sumOf(segments, "needed")], ["dead", "dead", sumOf(segments, "dead")],
+    ["other", "summaries of logs", sumOf(segments, "summaries")], ["clean", "clean or unused", unused]];
+  for (const [colour, name, count] of parts) {
+    add(key, "span", {class: `key ${colour}`});
+    key.append(`${name}: ${count} blocks`);
+  }
+  const clean = segments.filter(it => it.state === "clean").length;
+  const failed = segments.filter(it => it.state === "in error").length;
+  states.textContent = `${clean} of ${segments.length} segments are clean, and ${failed} in error.`;
 }
 
-/// A segment with its parts, at a corner.
-fn segment<W: Write>(
-    place: u64,
-    corner: (u64, u64),
-    used: &SegmentUse,
-    all: u64,
-    out: &mut W,
-) -> io::Result<()> {
-    let (x, y) = corner;
-    let (state, blocks) = (state_word(used.state), used.blocks);
-    write!(
-        out,
-        "<g><title>Segment {place}, {state}: {} needed, {} dead, {} summaries of {all} blocks</title>\
-         <rect class=\"clean\" x=\"{x}\" y=\"{y}\" width=\"{SIDE}\" height=\"{SIDE}\"/>",
-        blocks.needed, blocks.dead, blocks.summaries
-    )?;
-    let behind = layer("needed", corner, 0, (blocks.needed, all), out)?;
-    let behind = layer("dead", corner, behind, (blocks.dead, all), out)?;
-    layer("other", corner, behind, (blocks.summaries, all), out)?;
-    if matches!(used.state, SegmentState::Error) {
-        write!(
-            out,
-            "<rect class=\"error\" x=\"{x}\" y=\"{y}\" width=\"{SIDE}\" height=\"{SIDE}\"/>"
-        )?;
-    }
-    out.write_all(b"</g>\n")
+function fillSegments() {
+  segments.forEach((it, place) => {
+    const row = add(find("#segments tbody"), "tr");
+    addNumber(row, place);
+    add(row, "td", {}, it.state);
+    [it.needed, it.dead, it.summaries, unusedOf(it)].forEach(count => addNumber(row, count));
+  });
 }
 
-/// What the colours of the map mean, and how many blocks each stands for.
-fn key<W: Write>(whole: VolumeUse, out: &mut W) -> io::Result<()> {
-    let blocks = whole.blocks;
-    out.write_all(b"<p>")?;
-    for (class, name, count) in [
-        ("needed", "needed", blocks.needed),
-        ("dead", "dead", blocks.dead),
-        ("other", "summaries of logs", blocks.summaries),
-        (
-            "clean",
-            "clean or unused",
-            blocks.clean.saturating_add(blocks.unused),
-        ),
-    ] {
-        write!(
-            out,
-            "<span class=\"key {class}\"></span>{name}: {count} blocks"
-        )?;
-    }
-    let (clean, segments, failed) = (whole.clean_segments, whole.segments, whole.failed_segments);
-    writeln!(
-        out,
-        "</p>\n<p>{clean} of {segments} segments are clean, and {failed} in error.</p>"
-    )
+// ---- folders
+
+function fillFolders() {
+  folders.sort((one, other) => other.bytes - one.bytes);
+  for (const it of folders.slice(0, MOST_FOLDERS)) {
+    const row = add(find("#folders tbody"), "tr");
+    add(row, "td", {}, it.folder);
+    addNumber(row, it.bytes);
+    const percent = 100 * it.bytes / Math.max(1, folders[0].bytes);
+    add(add(row, "td", {class: "share"}), "div", {class: "bar", style: `width: ${percent}%`});
+  }
 }
 
-/// The map of segments of so many blocks each.
-pub fn segments<W: Write>(uses: &[SegmentUse], all: u64, out: &mut W) -> io::Result<()> {
-    key(VolumeUse::of(uses), out)?;
-    let columns = columns(uses.len());
-    let width = columns.saturating_mul(STEP);
-    let height = (uses.len() as u64)
-        .div_ceil(columns.max(1))
-        .saturating_mul(STEP);
-    writeln!(
-        out,
-        "<svg viewBox=\"-10 -10 {width} {}\" role=\"img\" aria-label=\"Map of segments\">",
-        height.saturating_add(10)
-    )?;
-    let mut place = 0;
-    for used in uses {
-        segment(place, corner_of(place, columns), used, all, out)?;
-        place = place.saturating_add(1);
-    }
-    out.write_all(b"</svg>\n")
-}
+find("#data").textContent.trim().split("\n").forEach(read);
+drawTimeline();
+fillCheckpoints();
+tellSegments();
+drawSegments();
+fillSegments();
+fillFolders();
+</script>
+</body>
+</html>
+"##;
