@@ -41,7 +41,7 @@ fn tell_checkpoint<W: Write>(
     };
     let pin = pins.and_then(|pins| pins.text(row.number));
     tell_object(alloc, clock, row, pin, Some(&counted), printer)?;
-    if let Some(before) = before {
+    if let Some(before) = &before {
         let pair = Pair {
             old: before.number,
             new: row.number,
