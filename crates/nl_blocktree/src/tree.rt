@@ -28,7 +28,7 @@ pub(crate) struct OldFile<'a, V: Vstore> {
 }
 
 /// What is to stand at an offset of a level: a number, or the one that names nothing.
-#[derive(Debug, Drop)]
+#[derive(Drop)]
 pub(crate) struct Edit {
     pub offset: u64,
     pub number: VirtualNumber,

@@ -3,7 +3,7 @@ ghost use Rattle.std.specs.Prelude.{◌≡◌};
 ghost use Rattle.nl_check.specs.ImageConditions.{number_of};
 
 /// A condition that bytes meet if they are an image. They are judged in this order.
-#[derive(Clone, Copy, Debug)]
+#[derive(Clone, Copy)]
 pub enum ImageCondition {
     /// The bytes begin with a mark.
     Mark,

@@ -9,7 +9,7 @@ use nl_layout::Superblock;
 use nl_types::{BLOCK_SIZE, Geometry, VolError};
 
 /// A superblock, and how it divides the volume.
-#[derive(Clone, Copy, Debug)]
+#[derive(Clone, Copy)]
 pub(crate) struct Division {
     pub(crate) superblock: Superblock,
     pub(crate) geometry: Geometry,

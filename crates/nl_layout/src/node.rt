@@ -18,7 +18,7 @@ const SLOT_SIZE: usize = 8;
 
 /// A node of a chain or a tree: 128 slots, each a virtual number, or 0 where it names nothing. Contracts see
 /// the list of the numbers. Its block has them one after the other, in 8 bytes each, in little endian.
-#[derive(Debug, Drop)]
+#[derive(Drop)]
 pub struct Node {
     slots: [VirtualNumber; SLOTS],
 }

@@ -6,7 +6,7 @@ use crate::level::Level;
 use nl_types::VirtualNumber;
 
 /// The root of a file, a directory or the file of inodes.
-#[derive(Clone, Copy, Debug, PartialEq, Eq)]
+#[derive(Clone, Copy, PartialEq, Eq)]
 pub enum Root {
     /// No block.
     Empty,
@@ -17,7 +17,7 @@ pub enum Root {
 }
 
 /// What the fields of an inode tell of its root, whether a root may be so or not.
-#[derive(Clone, Copy, Debug, PartialEq, Eq)]
+#[derive(Clone, Copy, PartialEq, Eq)]
 pub struct RootFields {
     pub kind: u8,
     pub height: u8,

@@ -25,7 +25,7 @@ const MAX_TAGS: usize = 30;
 /// blocks in 2 bytes at 4, the moment in 8 bytes at 8, the checkpoint number in 8 bytes at 16, and record k
 /// in 32 bytes at 64 + 32 k: virtual number, inode and offset in 8 bytes each, then the level in one. All
 /// other bytes are zero.
-#[derive(Debug, Drop)]
+#[derive(Drop)]
 pub struct Summary {
     stamp: u64,
     checkpoint: CheckpointNumber,

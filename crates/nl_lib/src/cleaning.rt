@@ -7,7 +7,7 @@ use nl_device::Device;
 use nl_types::{Event, Reply, Segment, VolError};
 
 /// What a cleaning of segments came to.
-#[derive(Clone, Copy, Debug, PartialEq, Eq)]
+#[derive(Clone, Copy, PartialEq, Eq)]
 pub struct Cleaned {
     /// How many segments were retired.
     pub retired: usize,

@@ -3,7 +3,7 @@ use nl_types::CheckpointNumber;
 
 /// The periods in which a checkpoint was made, in whatever zone. Each is a number that no other period of its
 /// kind has.
-#[derive(Clone, Copy, Debug, PartialEq, Eq)]
+#[derive(Clone, Copy, PartialEq, Eq)]
 pub struct Periods {
     pub hour: u64,
     pub day: u64,
@@ -13,7 +13,7 @@ pub struct Periods {
 }
 
 /// A checkpoint as rules see it.
-#[derive(Clone, Copy, Debug, PartialEq, Eq)]
+#[derive(Clone, Copy, PartialEq, Eq)]
 pub struct Dated {
     pub number: CheckpointNumber,
     /// Whether it stays, whatever rules say.
@@ -23,7 +23,7 @@ pub struct Dated {
 
 /// How many checkpoints stay: the last ones, and the newest of each of the last hours, days, weeks, months and
 /// years that have a checkpoint.
-#[derive(Clone, Copy, Debug, Default, PartialEq, Eq)]
+#[derive(Clone, Copy, Default, PartialEq, Eq)]
 pub struct Rules {
     pub last: u64,
     pub hourly: u64,

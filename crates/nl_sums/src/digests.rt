@@ -9,7 +9,7 @@ use sha2::{Digest as _, Sha256};
 pub(crate) const DIGITS: usize = 64;
 
 /// The SHA-256 digest of some bytes.
-#[derive(Clone, Copy, Debug)]
+#[derive(Clone, Copy)]
 pub struct Digest {
     /// In hexadecimal, with small letters, as sha256sum(1) writes it.
     pub digits: [u8; DIGITS],

@@ -8,7 +8,7 @@ use nl_types::{BLOCK_SIZE, Geometry, Items};
 use std::alloc::{AllocError, Global};
 
 /// How many checkpoints an image keeps, and the number of the latest.
-#[derive(Clone, Copy, Debug)]
+#[derive(Clone, Copy)]
 pub struct Kept {
     pub count: u64,
     pub latest: u64,
@@ -16,7 +16,7 @@ pub struct Kept {
 
 /// What tells the save of an image from all others. No two have the same tables, as each change of a volume
 /// changes these.
-#[derive(Clone, Copy, Debug)]
+#[derive(Clone, Copy)]
 pub struct Save {
     /// How many bytes the image has.
     pub bytes: u64,
