@@ -9,7 +9,7 @@ use std::alloc::Global;
 use std::marker::Model;
 
 /// What is wrong with a file whose blocks can't be met.
-#[derive(Clone, Copy, PartialEq, Eq)]
+#[derive(Clone, Copy)]
 pub enum WalkError {
     /// The root isn't empty, and names no node.
     NoNode,

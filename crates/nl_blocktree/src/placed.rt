@@ -14,7 +14,7 @@ use nl_vstore::VRead;
 use std::alloc::Global;
 
 /// A block of a file: where it stands, and its number.
-#[derive(Clone, Copy, PartialEq, Eq)]
+#[derive(Clone, Copy)]
 pub struct PlacedBlock {
     pub level: Level,
     /// The index of a data block, or the position of a node in its level, from 0.

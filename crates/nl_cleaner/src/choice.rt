@@ -7,7 +7,7 @@ use nl_types::{Moment, Segment};
 use std::alloc::{AllocError, Global};
 
 /// A segment that may be cleaned, with the moment of its last log.
-#[derive(Clone, Copy, PartialEq, Eq)]
+#[derive(Clone, Copy)]
 pub struct Candidate {
     pub stamp: Moment,
     pub segment: Segment,

@@ -10,7 +10,7 @@ use nl_types::{Answer, Event, Moment, Reply, Segment, VolError};
 use std::marker::Model;
 
 /// What comes next in a round.
-#[derive(Clone, Copy, PartialEq, Eq)]
+#[derive(Clone, Copy)]
 pub enum Stage {
     /// The expiry of checkpoints.
     Expiring,

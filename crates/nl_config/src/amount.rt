@@ -3,7 +3,7 @@ ghost use Rattle.std.specs.Prelude.{◌≡◌};
 ghost use Rattle.nl_config.specs.Configuration.{amount_of};
 
 /// A number of segments or of blocks, or a share of them.
-#[derive(Clone, Copy, PartialEq, Eq)]
+#[derive(Clone, Copy)]
 pub enum Amount {
     Count(u64),
     /// In hundredths, 0 to 100 where it is read from a configuration.

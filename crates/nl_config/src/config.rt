@@ -6,7 +6,7 @@ use crate::amount::Amount;
 use crate::setting::Setting;
 
 /// What a configuration sets that has an effect, under the names of nilfs_cleanerd.conf(5).
-#[derive(Clone, Copy, PartialEq, Eq)]
+#[derive(Clone, Copy)]
 pub struct Config {
     /// In seconds. A checkpoint that was made less than this ago is protected.
     pub protection_period: u64,

@@ -4,7 +4,7 @@ ghost use Rattle.std.specs.Str.{bytes_eq};
 ghost use Rattle.nl_config.specs.Configuration.{keyword_in, spelling};
 
 /// A keyword of nilfs_cleanerd.conf(5).
-#[derive(Clone, Copy, PartialEq, Eq)]
+#[derive(Clone, Copy)]
 pub enum Keyword {
     ProtectionPeriod,
     MinCleanSegments,

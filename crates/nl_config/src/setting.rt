@@ -10,7 +10,7 @@ use nl_types::decimal;
 use std::str;
 
 /// What a line sets.
-#[derive(Clone, Copy, PartialEq, Eq)]
+#[derive(Clone, Copy)]
 pub enum Setting {
     ProtectionPeriod(u64),
     MinCleanSegments(Amount),

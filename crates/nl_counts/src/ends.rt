@@ -8,7 +8,7 @@ use std::alloc::{AllocError, Global};
 use std::marker::Model;
 
 /// A number that has ended, and the checkpoint where it did. The number is None where it was let go.
-#[derive(Clone, Copy, PartialEq, Eq)]
+#[derive(Clone, Copy)]
 pub struct Ended {
     pub number: Option<VirtualNumber>,
     pub end: CheckpointNumber,

@@ -7,7 +7,7 @@ use nl_layout::Root;
 use nl_types::{CheckpointNumber, Mode, Row, VolError};
 
 /// A kept checkpoint: its tree is read from the blocks under its root.
-#[derive(Clone, Copy, PartialEq, Eq)]
+#[derive(Clone, Copy)]
 pub struct Checkpoint {
     pub number: CheckpointNumber,
     pub mode: Mode,

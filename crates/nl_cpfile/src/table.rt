@@ -19,7 +19,7 @@ use std::marker::Model;
 use std::mem::replace;
 
 /// What is told of all kept checkpoints together.
-#[derive(Clone, Copy, PartialEq, Eq)]
+#[derive(Clone, Copy)]
 pub struct Cpstat {
     /// The latest one's number.
     pub latest: CheckpointNumber,

@@ -12,7 +12,7 @@ use std::alloc::{AllocError, Global};
 
 /// A payload block of a segment, as `nilfs_bdesc` of libnilfs has it: what it was written for, and where the
 /// page of its virtual number stands now. The block is dead where that is in another block, or in none.
-#[derive(Clone, Copy, PartialEq, Eq)]
+#[derive(Clone, Copy)]
 pub struct Bdesc {
     /// The inode of its file; 6 for the file of inodes.
     pub inode: InodeNumber,

@@ -13,7 +13,7 @@ use std::alloc::{AllocError, Global};
 
 /// What the table has for a number in use: where its page stands, and its period. As in the DAT of
 /// nilfs2.rst.
-#[derive(Clone, Copy, PartialEq, Eq)]
+#[derive(Clone, Copy)]
 pub struct DatEntry {
     /// Where the page stands now.
     pub block: BlockNumber,

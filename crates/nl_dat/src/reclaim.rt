@@ -8,7 +8,7 @@ use nl_space::Payload;
 use nl_types::{Items, VirtualNumber};
 
 /// How many numbers were taken out of use, and the least of them.
-#[derive(Clone, Copy, PartialEq, Eq)]
+#[derive(Clone, Copy)]
 pub(crate) struct TakenOut {
     pub count: u32,
     pub least: Option<VirtualNumber>,

@@ -8,11 +8,11 @@ ghost use Rattle.nl_device.specs.Pages.{DevicePages, KeepsBelow, KeepsOthers, Cl
 use nl_types::{BlockNumber, Page, Segment};
 
 /// A put failed, and the device has counted it.
-#[derive(Clone, Copy, PartialEq, Eq)]
+#[derive(Clone, Copy)]
 pub struct Fault;
 
 /// Why a get was refused, or more segments were.
-#[derive(Clone, Copy, PartialEq, Eq)]
+#[derive(Clone, Copy)]
 pub enum DeviceError {
     /// The device failed, and has counted it.
     Fault,

@@ -3,7 +3,7 @@ ghost use Rattle.std.specs.Prelude.{◌≡◌};
 ghost use Rattle.nl_device.specs.Turns.{HasTurned, turn_of, turned};
 
 /// When a call of one kind fails: never, after so many further ones of it, or no more, as it has failed.
-#[derive(Clone, Copy, PartialEq, Eq)]
+#[derive(Clone, Copy)]
 pub enum Turn {
     Never,
     After(u64),

@@ -9,7 +9,7 @@ use nl_vstore::Vstore;
 
 /// What the next checkpoint takes of the room that there is, in blocks. It is refused by `NoSpace` exactly
 /// where it takes more.
-#[derive(Clone, Copy, PartialEq, Eq)]
+#[derive(Clone, Copy)]
 pub struct Room {
     /// How many it has to write.
     pub blocks: usize,

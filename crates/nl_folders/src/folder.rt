@@ -13,7 +13,7 @@ use nl_types::{Items, Kind, Named, Object, VolError};
 use std::alloc::{AllocError, AllocFailed, Global};
 
 /// Why a folder isn't read.
-#[derive(Clone, Copy, PartialEq, Eq)]
+#[derive(Clone, Copy)]
 pub enum FolderError {
     /// The volume refuses it, or there is no memory.
     Refused(VolError),

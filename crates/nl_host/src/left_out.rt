@@ -2,7 +2,7 @@
 use std::fmt;
 
 /// Why something below a folder isn't kept, or isn't laid out.
-#[derive(Clone, Copy, PartialEq, Eq)]
+#[derive(Clone, Copy)]
 pub enum Reason {
     /// It is a symbolic link, where none are kept. It isn't followed.
     Link,

@@ -17,7 +17,7 @@ use std::error::Error;
 use std::fmt;
 
 /// Why a tree isn't stored, or read.
-#[derive(Clone, Copy, Debug, PartialEq, Eq)]
+#[derive(Clone, Copy, Debug)]
 pub enum KeepError {
     /// The volume refuses it, or there is no memory.
     Refused(VolError),

@@ -15,7 +15,7 @@ use nl_types::{Items, VolError};
 use std::io::Write;
 
 /// How a session ended.
-#[derive(Clone, Copy, PartialEq)]
+#[derive(Clone, Copy)]
 pub struct SessionEnd {
     /// The exit status.
     pub status: u8,

@@ -20,7 +20,7 @@ const INODE_FILE: u8 = 3;
 /// which is 3, the root's kind at 33 and height at 34, the size in 8 bytes at 40, and the root's number in 8
 /// bytes at 48. All other bytes are zero. Whether a root may be so, and the size too, is judged by the blocks
 /// that it leads to, so an entry may have any.
-#[derive(Clone, Copy, PartialEq, Eq)]
+#[derive(Clone, Copy)]
 pub struct CheckpointEntry {
     pub number: CheckpointNumber,
     pub mode: Mode,

@@ -32,7 +32,7 @@ pub struct Inode {
 /// file of inodes), the root's kind at 1 (0 for an empty one, 1 for a chain, 2 for a tree), the height of a
 /// tree at 2, the size in 8 bytes at 8, and the number of the root's first or topmost node in 8 bytes at 16,
 /// which is 0 for an empty root. All other bytes are zero, and so are all bytes of a free place.
-#[derive(Clone, Copy, PartialEq, Eq)]
+#[derive(Clone, Copy)]
 pub enum InodeEntry {
     Free,
     InUse(Inode),

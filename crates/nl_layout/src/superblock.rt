@@ -12,7 +12,7 @@ const SECOND_MARK: [u8; 8] = *b"NLVOL002";
 const HEADER_SIZE: usize = 24;
 
 /// Which format an image has. They differ in that the first one has no minor checkpoints.
-#[derive(Clone, Copy, PartialEq, Eq)]
+#[derive(Clone, Copy)]
 pub enum Mark {
     First,
     Second,
@@ -35,7 +35,7 @@ impl Mark {
 /// The block has 1,024 bytes, with numbers in little endian: the mark `NLVOL001` or `NLVOL002` at 0, the
 /// number of segments in 4 bytes at 8, that of the blocks in each in 4 bytes at 12, and that of kept
 /// checkpoints in 8 bytes at 16. All other bytes are zero.
-#[derive(Clone, Copy, PartialEq, Eq)]
+#[derive(Clone, Copy)]
 pub struct Superblock {
     pub mark: Mark,
     pub segments: u32,

@@ -13,7 +13,7 @@ const MAX_LEVEL: u8 = 3;
 
 /// What a payload block is: its number, and its place in the file that it belongs to. By it a cleaner tells
 /// whether the block is still needed (Rosenblum and Ousterhout 1992, section 3.3).
-#[derive(Clone, Copy, PartialEq, Eq)]
+#[derive(Clone, Copy)]
 pub struct Tag {
     pub number: VirtualNumber,
     /// The file's inode; 6 for the file of inodes.

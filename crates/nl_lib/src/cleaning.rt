@@ -7,7 +7,7 @@ use nl_device::Device;
 use nl_types::{Event, Reply, Segment, VolError};
 
 /// What a cleaning of segments came to.
-#[derive(Clone, Copy, PartialEq, Eq)]
+#[derive(Clone, Copy)]
 pub struct Cleaned {
     /// How many segments were retired.
     pub retired: usize,

@@ -3,7 +3,7 @@ ghost use Rattle.std.specs.Prelude.{◌≡◌};
 ghost use Rattle.nl_manifests.specs.Manifests.{is_time, are_attributes};
 
 /// The moment of the last change of a file, as the host tells it.
-#[derive(Clone, Copy, PartialEq, Eq)]
+#[derive(Clone, Copy)]
 pub struct Time {
     /// Whether the seconds count back from 1970. Then they are not 0.
     pub is_negative: bool,
@@ -13,7 +13,7 @@ pub struct Time {
 }
 
 /// The mode, the owners and the time of a file, a directory or a link.
-#[derive(Clone, Copy, PartialEq, Eq)]
+#[derive(Clone, Copy)]
 pub struct Attributes {
     /// The twelve bits that chmod(2) sets.
     pub mode: u16,

@@ -15,7 +15,7 @@ use std::alloc::{AllocError, Global};
 use std::cmp::Ordering;
 
 /// What differs at a path from one tree of the host to another.
-#[derive(Clone, Copy, PartialEq, Eq)]
+#[derive(Clone, Copy)]
 pub enum HostDifference {
     /// Nothing stood there.
     Added,

@@ -23,7 +23,7 @@ pub struct HostEntry {
 pub type HostTree = Items<(Path, HostEntry)>;
 
 /// Why a line of a manifest shows nothing.
-#[derive(Clone, Copy, PartialEq, Eq)]
+#[derive(Clone, Copy)]
 pub enum LineFault {
     /// Its name can't stand in a path: it has a slash, or is `.` or `..`.
     BadName,

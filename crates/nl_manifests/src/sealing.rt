@@ -23,7 +23,7 @@ use std::alloc::{AllocError, AllocFailed, Global};
 const MOST_PATHS: usize = PATH_LIMIT + 1;
 
 /// Why a tree of the host isn't sealed.
-#[derive(Clone, Copy, PartialEq, Eq)]
+#[derive(Clone, Copy)]
 pub enum SealError {
     Memory,
     /// No tree of a volume shows it. Its paths are not in order, or the directory of one is not there; a name

@@ -38,7 +38,7 @@ impl<'a, J: Volumes> Model for FileAt<'a, J> {
 }
 
 /// What a read in parts came to.
-#[derive(Clone, Copy, PartialEq, Eq)]
+#[derive(Clone, Copy)]
 pub struct PartsRead {
     /// How many bytes were read.
     pub count: usize,

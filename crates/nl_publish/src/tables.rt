@@ -37,7 +37,7 @@ impl Model for ReaderTables {
 }
 
 /// Why a commit is not applied.
-#[derive(Clone, Copy, PartialEq, Eq)]
+#[derive(Clone, Copy)]
 pub enum ApplyError {
     /// No history goes on by such a commit.
     NotNext,

@@ -15,7 +15,7 @@ use nl_sufile::Sustat;
 use nl_types::{Segment, SegmentInfo, VolError};
 
 /// What is told of a segment, all of it of one state.
-#[derive(Clone, Copy, PartialEq, Eq)]
+#[derive(Clone, Copy)]
 pub struct SegmentView {
     pub info: SegmentInfo,
     /// How many needed blocks it has.

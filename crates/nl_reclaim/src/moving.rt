@@ -14,7 +14,7 @@ use nl_vstore::Vstore;
 use std::alloc::Global;
 
 /// How many pages a move took out of its segment, and how many needed ones are left in it.
-#[derive(Clone, Copy, PartialEq, Eq)]
+#[derive(Clone, Copy)]
 pub struct MoveCount {
     pub moved: u32,
     pub left: u32,

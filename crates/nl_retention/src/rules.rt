@@ -3,7 +3,7 @@ use nl_types::CheckpointNumber;
 
 /// The periods in which a checkpoint was made, in whatever zone. Each is a number that no other period of its
 /// kind has.
-#[derive(Clone, Copy, PartialEq, Eq)]
+#[derive(Clone, Copy)]
 pub struct Periods {
     pub hour: u64,
     pub day: u64,
@@ -13,7 +13,7 @@ pub struct Periods {
 }
 
 /// A checkpoint as rules see it.
-#[derive(Clone, Copy, PartialEq, Eq)]
+#[derive(Clone, Copy)]
 pub struct Dated {
     pub number: CheckpointNumber,
     /// Whether it stays, whatever rules say.

@@ -10,7 +10,7 @@ use nl_device::{Device, Fault};
 use nl_types::{BlockNumber, Items, Page};
 
 /// A put failed. Nothing is known of the block that it was for.
-#[derive(Clone, Copy, PartialEq, Eq)]
+#[derive(Clone, Copy)]
 pub struct PutFailed {
     /// How many puts were tried, the failed one included.
     pub tried: u32,

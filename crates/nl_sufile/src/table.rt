@@ -40,7 +40,7 @@ impl Model for SegTable {
 
 /// How many segments there are, and of them how many are clean, and how many dirty. An active segment and one
 /// in error count as dirty.
-#[derive(Clone, Copy, PartialEq, Eq)]
+#[derive(Clone, Copy)]
 pub struct Sustat {
     pub segments: usize,
     pub clean: usize,

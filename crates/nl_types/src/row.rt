@@ -8,7 +8,7 @@ use crate::items::Items;
 use crate::numbers::CheckpointNumber;
 
 /// What is told of a kept checkpoint.
-#[derive(Clone, Copy, PartialEq, Eq)]
+#[derive(Clone, Copy)]
 pub struct Row {
     pub number: CheckpointNumber,
     pub stamp: u64,
@@ -20,7 +20,7 @@ pub struct Row {
 }
 
 /// A checkpoint that stays where a range is removed, and why.
-#[derive(Clone, Copy, PartialEq, Eq)]
+#[derive(Clone, Copy)]
 pub struct Stays {
     pub number: CheckpointNumber,
     pub reason: VolError,
@@ -34,7 +34,7 @@ pub struct Range {
 }
 
 /// Which checkpoints a listing shows, and in which order.
-#[derive(Clone, Copy, PartialEq, Eq)]
+#[derive(Clone, Copy)]
 pub struct ListOptions {
     /// Descending, the latest one first.
     pub reverse: bool,

@@ -14,7 +14,7 @@ pub struct Clock<'z> {
 }
 
 /// How a command ended that wasn't refused.
-#[derive(Clone, Copy, PartialEq, Eq)]
+#[derive(Clone, Copy)]
 pub enum Outcome {
     Done,
     /// `diff` or `check` found something.
