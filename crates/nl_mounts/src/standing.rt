@@ -10,7 +10,7 @@ use crate::port::Port;
 use nl_publish::{Mount, Volumes};
 
 /// How a mount stands for a port: why a read through it is refused by `BadMount`, or that it isn't.
-#[derive(Clone, Copy)]
+#[derive(Clone, Copy, PartialEq, Eq)]
 pub enum Standing {
     /// The state that the port enters shows it.
     Mounted,

@@ -14,7 +14,7 @@ pub struct Clock<'z> {
 }
 
 /// How a command ended that wasn't refused.
-#[derive(Clone, Copy)]
+#[derive(Clone, Copy, PartialEq, Eq)]
 pub enum Outcome {
     Done,
     /// `diff` or `check` found something.

@@ -127,7 +127,7 @@ fn segments_for(blocks: u64, segment_blocks: u64) -> u64 {
 }
 
 /// How room is made for a tree.
-#[derive(Clone, Copy)]
+#[derive(Clone, Copy, PartialEq, Eq)]
 pub enum Effort {
     /// By what is to be written, as it is reckoned.
     Reckoned,
