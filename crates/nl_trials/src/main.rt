@@ -1,5 +1,6 @@
 //! What scripts ask of the layers below the program `nlvol`. The first word says what: `bench` is measured by
-//! `bin/bench`, and `rows` does the rows of events of `tests/events` and `tests/sweep`.
+//! `bin/bench`, `rows` does the rows of events of `tests/events` and `tests/sweep`, and `tests` shows what no
+//! contract says and no row can show, for `tests/trials`.
 #![tactic(auto)]
 
 use crate::words::all_words;
@@ -14,11 +15,12 @@ mod events;
 mod looks;
 mod ports;
 mod rows;
+mod tests;
 mod volumes;
 mod words;
 
 fn tell_usage(rt: &HostRuntime) -> u8 {
-    let _ = eprintln!(rt; "usage: nl_trials bench|rows [WORD ..]");
+    let _ = eprintln!(rt; "usage: nl_trials bench|rows|tests [WORD ..]");
     2
 }
 
@@ -31,6 +33,7 @@ fn run<R: Threads + Wait + Clock + Sync>(rt: &HostRuntime, handles: &R, words: &
     match first.as_str() {
         "bench" => bench::run(rt, handles, rest),
         "rows" => rows::run(rt, handles),
+        "tests" => tests::run(rt, handles),
         _ => tell_usage(rt),
     }
 }

@@ -5,6 +5,7 @@ use crate::bench::clock::{now, since};
 use crate::bench::volume::{
     LENGTH, large, new_pen, plain_checkpoint, preparation, segments_for, small_write,
 };
+use crate::tests::backup::give_back;
 use nl_core::Pen;
 use nl_device::MemDevice;
 use nl_mounts::{Port, Shared, is_mount_event, share};
@@ -343,21 +344,6 @@ fn prepare<J: Volumes, R: Wait>(
 ) -> Result<(), VolError> {
     let events = preparation(alloc, length)?;
     do_all(rt, volume, events.as_slice())
-}
-
-/// Gives a mount back.
-fn give_back<J: Volumes, R: Wait>(
-    rt: &R,
-    volume: &Volume<J>,
-    mount: Mount<J>,
-) -> Result<(), VolError> {
-    match volume.unmount(rt, mount) {
-        Ok(()) => Ok(()),
-        Err((refusal, refused)) => {
-            refused.spend();
-            Err(refusal)
-        }
-    }
 }
 
 /// Makes the snapshot, mounts it, and does a task.

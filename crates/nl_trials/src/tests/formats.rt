@@ -93,9 +93,9 @@ fn spell_inodes() -> bool {
         && spells(InodeEntry::Free, &[])
 }
 
-#[test]
-fn blocks_are_spelled_byte_by_byte(rt: HostRuntime) {
-    assert!(rt; written_summary() == spelled::<BLOCK_SIZE>(TWO_RECORDS));
-    assert!(rt; written_node() == spelled::<BLOCK_SIZE>(NODE));
-    assert!(rt; spell_inodes());
+/// Whether each block is written as the format says.
+pub(crate) fn blocks_are_spelled_byte_by_byte() -> bool {
+    written_summary() == spelled::<BLOCK_SIZE>(TWO_RECORDS)
+        && written_node() == spelled::<BLOCK_SIZE>(NODE)
+        && spell_inodes()
 }

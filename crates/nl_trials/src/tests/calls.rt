@@ -2,7 +2,7 @@
 //! refused, and each finds what the last one left.
 ghost use Rattle.std.specs.Prelude.{◌≡◌};
 
-use crate::backup::{Volume, shared};
+use crate::tests::backup::{Volume, shared};
 use nl_mounts::{
     Answer, Ask, CheckpointNumber, Event, Items, ListOptions, Mode, Mount, Opened, Port, Row,
     Standing, Stat, VolError, Volumes,
@@ -10,7 +10,6 @@ use nl_mounts::{
 use std::alloc::Global;
 use std::marker::Brand;
 use std::sync::Wait;
-use std::test::Fail;
 
 fn all_hold(answers: &[bool]) -> bool {
     for answer in answers {
@@ -162,8 +161,7 @@ fn answered<J: Volumes, R: Wait>(rt: &R, alloc: Global, opened: Opened) -> Resul
     }
 }
 
-#[test]
-fn each_call_answers(rt: HostRuntime) -> Result<(), Fail> {
-    assert!(rt; answered::<Brand, _>(&rt, rt.alloc(), Opened::new(1))?);
-    Ok(())
+/// Whether each call answers as is due.
+pub(crate) fn each_call_answers<R: Wait>(rt: &R, alloc: Global) -> Result<bool, VolError> {
+    answered::<Brand, _>(rt, alloc, Opened::new(1))
 }

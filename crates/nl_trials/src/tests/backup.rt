@@ -9,7 +9,6 @@ use nl_mounts::{
 use std::alloc::Global;
 use std::marker::Brand;
 use std::sync::Wait;
-use std::test::Fail;
 use std::thread::{Threads, join};
 
 pub(crate) type Volume<J> = Shared<Pen<MemDevice>, J>;
@@ -163,10 +162,12 @@ fn is_of_snapshot(files: &[Items<u8>]) -> bool {
     }
 }
 
-#[test]
-fn backups_are_of_one_moment(rt: HostRuntime) -> Result<(), Fail> {
+/// Whether a backup has what the file was when its snapshot was made.
+pub(crate) fn backups_are_of_one_moment<R: Threads + Wait + Sync>(
+    rt: &R,
+    alloc: Global,
+) -> Result<bool, VolError> {
     // Each shared volume of a program has an id of its own.
-    let files = backed_up::<Brand, _>(&rt, rt.alloc(), Opened::new(1))?;
-    assert!(rt; is_of_snapshot(files.as_slice()));
-    Ok(())
+    let files = backed_up::<Brand, _>(rt, alloc, Opened::new(1))?;
+    Ok(is_of_snapshot(files.as_slice()))
 }

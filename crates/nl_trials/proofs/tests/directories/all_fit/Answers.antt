@@ -3,7 +3,7 @@ use Rattle.std.specs.List.{All}
 use Rattle.std.proofs.lemmas.List.{take_all}
 use Rattle.std.proofs.lemmas.List.Elements.{All-more}
 use Rattle.nl_dirs.specs.Records.{RecordHasSpelling}
-use Rattle.nl_tests.proofs.directories.all_fit.Goals as goal
+use Rattle.nl_trials.proofs.tests.directories.all_fit.Goals as goal
 
 pub loop-record-preserved : goal.loop-record-preserved
 loop-record-preserved c =

@@ -1,4 +1,4 @@
-use Rattle.nl_tests.proofs.calls.each_call_answers.Given as goal
+use Rattle.nl_trials.proofs.tests.calls.each_call_answers.Given as goal
 
 abbrev pub ghosts-answered : goal.ghosts-answered
 ghosts-answered g a = record { book = λ id. a.opened.seen.book }

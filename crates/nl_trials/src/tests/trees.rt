@@ -4,7 +4,6 @@ use nl_layout::{Level, Root};
 use nl_types::{BLOCK_SIZE, Block, Page, Period, VirtualNumber, VolError};
 use nl_vstore::VRead;
 use std::alloc::{AllocError, Global};
-use std::test::Fail;
 
 /// Pages of the numbers from 0 on.
 #[derive(Drop)]
@@ -61,14 +60,8 @@ fn block_count(alloc: Global, store: &Pages, root: Root) -> Result<Option<usize>
 }
 
 /// Whether a tree of one node over one block of data has these two blocks.
-fn has_two_blocks(alloc: Global) -> Result<bool, VolError> {
+pub(crate) fn all_blocks_of_a_file_are_listed(alloc: Global) -> Result<bool, VolError> {
     let store = three_pages(alloc)?;
     let root = Root::Tree(Level::new(1), VirtualNumber::new(2));
     Ok(block_count(alloc, &store, root)? == Some(2))
-}
-
-#[test]
-fn all_blocks_of_a_file_are_listed(rt: HostRuntime) -> Result<(), Fail> {
-    assert!(rt; has_two_blocks(rt.alloc())?);
-    Ok(())
 }

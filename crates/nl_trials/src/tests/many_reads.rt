@@ -2,7 +2,7 @@
 //! others do.
 ghost use Rattle.std.specs.Prelude.{◌≡◌};
 
-use crate::backup::{Volume, give_back, keep_file, shared};
+use crate::tests::backup::{Volume, give_back, keep_file, shared};
 use nl_cleaner::Job;
 use nl_mounts::{
     Amount, Config, Gate, Items, JobAnswer, Moment, Mount, Opened, Port, ReadJob, VolError,
@@ -12,7 +12,6 @@ use std::alloc::Global;
 use std::marker::Brand;
 use std::sync::Wait;
 use std::sync::atomic::{AtomicBool, AtomicU64, Ordering};
-use std::test::Fail;
 use std::thread::{Threads, join};
 
 /// How many checkpoints the writer makes.
@@ -279,8 +278,10 @@ fn many_reads<J: Volumes + Send + Sync, R: Threads + Wait + Sync>(
     good
 }
 
-#[test]
-fn many_reads_are_made_at_once(rt: HostRuntime) -> Result<(), Fail> {
-    assert!(rt; many_reads::<Brand, _>(&rt, rt.alloc(), Opened::new(1))?);
-    Ok(())
+/// Whether reads go on while a writer and a cleaner do, and each finds what is due.
+pub(crate) fn many_reads_are_made_at_once<R: Threads + Wait + Sync>(
+    rt: &R,
+    alloc: Global,
+) -> Result<bool, VolError> {
+    many_reads::<Brand, _>(rt, alloc, Opened::new(1))
 }
