@@ -1,3 +1,4 @@
+pub mod Saves
 pub mod SharedWorlds
 pub mod SharedWorldsMounts
 pub mod SharedWorldsRuns

@@ -8,7 +8,7 @@ use Rattle.nl_commit.specs.Layout.{Layout, MeansWorld}
 use Rattle.nl_core.specs.Opened.{IsAtRest}
 use Rattle.nl_core.specs.PenImages.{CanBeClosed, ImagesMeanOneWorld, IsPenImage}
 use Rattle.nl_commit.specs.Volume.{Lists, kept_by}
-use Rattle.nl_keeping.specs.Endings.{IsSettled}
+use Rattle.nl_session.specs.Endings.{IsSettled}
 use Rattle.nl_session.specs.Laws.{SavedRunsComeBack, SavedVolumesComeBack, settled}
 
 -- a pen at rest could be closed at once

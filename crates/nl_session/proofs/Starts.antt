@@ -5,8 +5,8 @@ use Rattle.nl_types.specs.declared.error.VolError.TheVariants.{Memory}
 use Rattle.nl_commit.specs.Layout.{Layout}
 use Rattle.nl_arguments.specs.declared.arguments.Arguments.{Arguments}
 use Rattle.nl_texts.specs.declared.refusals.StartStep.TheVariants as step
-use Rattle.nl_keeping.specs.Beginnings.{AsksToBegin, Beginning, IsBegunBy, IsGeometryJudged, IsStartFault, Kept, New}
-use Rattle.nl_keeping.specs.declared.starting.StartFault.TheVariants.{Refused}
+use Rattle.nl_session.specs.Beginnings.{AsksToBegin, Beginning, IsBegunBy, IsGeometryJudged, IsStartFault, Kept, New}
+use Rattle.nl_session.specs.declared.starting.StartFault.TheVariants.{Refused}
 
 -- a volume that is begun was judged
 judged_by : (arguments : Arguments) (beginning : Beginning) → AsksToBegin arguments beginning

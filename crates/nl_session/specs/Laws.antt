@@ -3,8 +3,8 @@ use Rattle.std.specs.Prelude.{◌≡◌, ℕ, List, if◌then◌else◌}
 use Rattle.nl_types.specs.declared.event.Mode.TheVariants.{Plain}
 use Rattle.nl_types.specs.Plain.Worlds.{World, checkpoint}
 use Rattle.nl_commit.specs.Layout.{Layout, MeansWorld}
-use Rattle.nl_keeping.specs.Beginnings.{IsOpenedPen}
-use Rattle.nl_keeping.specs.Endings.{SavesFrom}
+use Rattle.nl_session.specs.Beginnings.{IsOpenedPen}
+use Rattle.nl_session.specs.Endings.{SavesFrom}
 
 -- A volume that was saved comes back: what is opened of its image means the world that was saved, where no
 -- mount number was given yet.

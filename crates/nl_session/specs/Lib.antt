@@ -1,3 +1,6 @@
+pub mod Beginnings
+pub mod Telling
+pub mod Endings
 pub mod Sessions
 pub mod Laws
 pub mod SharedLaws

@@ -20,12 +20,12 @@ use Rattle.nl_texts.specs.declared.ends.Done.{Done}
 use Rattle.nl_commit.specs.Layout.{Layout, layout_of}
 use Rattle.nl_commit.specs.Volume.{without_mounts}
 use Rattle.nl_cleaner.specs.Rounds.{cleaning_habits}
-use Rattle.nl_keeping.specs.Beginnings.{Beginning, IsBegunBy, IsPenOf, IsStartFault}
-use Rattle.nl_keeping.specs.Endings.{Ends, TellsEnd}
+use Rattle.nl_session.specs.Beginnings.{Beginning, IsBegunBy, IsPenOf, IsStartFault}
+use Rattle.nl_session.specs.Endings.{Ends, TellsEnd}
 use Rattle.nl_shared.specs.SharedVolumes.{Sharing, shared_habits}
-use Rattle.nl_keeping.specs.Telling.{Errors, IsNoticed, Tells, configuration_text, fault_text, notice, words_text}
-use Rattle.nl_keeping.specs.declared.starting.StartFault.{StartFault}
-use Rattle.nl_keeping.specs.declared.telling.SessionEnd.{SessionEnd}
+use Rattle.nl_session.specs.Telling.{Errors, IsNoticed, Tells, configuration_text, fault_text, notice, words_text}
+use Rattle.nl_session.specs.declared.starting.StartFault.{StartFault}
+use Rattle.nl_session.specs.declared.telling.SessionEnd.{SessionEnd}
 
 -- all of the volume is published, and nothing was mounted
 pub record IsUnused (s : Sharing) : Type 0 where

@@ -10,7 +10,7 @@ use Rattle.nl_commit.specs.Layout.{MeansWorld}
 use Rattle.nl_publish.specs.Locks.{listed}
 use Rattle.nl_publish.specs.Mounts.{Claim}
 use Rattle.nl_publish.specs.Told.{ShowsCopy}
-use Rattle.nl_keeping.specs.Beginnings.{Kept, New}
+use Rattle.nl_session.specs.Beginnings.{Kept, New}
 use Rattle.nl_session.specs.Sessions.{IsVolumeOf}
 use Rattle.nl_shared.specs.SharedVolumes.{Sharing}
 

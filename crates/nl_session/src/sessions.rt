@@ -1,19 +1,22 @@
 //! A session of the program: the words behind its name, and then a script on a volume in memory.
 ghost use Rattle.std.specs.Prelude.{◌≡◌, Bool, map, option_map, IfErr, IfOk, IsOkUnless, List, None, OnErr, OnOk, Option, ℕ};
 ghost use Rattle.std.specs.Io.KnownBytes.{Appends};
-ghost use Rattle.nl_keeping.specs.Beginnings.{IsBegunBy, IsStartFault, place_path};
+ghost use Rattle.nl_session.specs.Beginnings.{IsBegunBy, IsStartFault, place_path};
 ghost use Rattle.nl_session.specs.Sessions.{IsScriptRun, IsSession, Prints, RunsBegun, RunsOn, RunsOrRefuses, RunsWith, printing_of, streams};
-ghost use Rattle.nl_keeping.specs.Telling.{errors_of};
+ghost use Rattle.nl_session.specs.Telling.{errors_of};
 
+use crate::ending::end;
+use crate::inputs::buffered;
+use crate::starting::{MOMENT, StartFault, pen_for, place_for};
+use crate::telling::{
+    SessionEnd, save_path, tell_configuration, tell_failure, tell_fault, tell_notice, tell_refusal,
+    tell_words,
+};
 use nl_arguments::{Arguments, Asked, read};
 use nl_cleaner::Job;
 use nl_config::Config;
 use nl_core::Pen;
 use nl_device::MemDevice;
-use nl_keeping::{
-    MOMENT, SessionEnd, StartFault, buffered, end, pen_for, place_for, save_path,
-    tell_configuration, tell_failure, tell_fault, tell_notice, tell_refusal, tell_words,
-};
 use nl_mounts::Port;
 use nl_publish::{Opened, Volumes};
 use nl_saving::SavePlace;

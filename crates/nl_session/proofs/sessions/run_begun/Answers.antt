@@ -3,7 +3,7 @@ use Rattle.nl_types.specs.declared.error.VolError.{VolError}
 use Rattle.nl_commit.specs.Layout.{Layout}
 use Rattle.nl_texts.specs.RefusalTexts.{start_text}
 use Rattle.nl_texts.specs.declared.refusals.StartStep.TheVariants.{Start}
-use Rattle.nl_keeping.specs.Telling.{Tells, errors_of}
+use Rattle.nl_session.specs.Telling.{Tells, errors_of}
 use Rattle.nl_session.proofs.sessions.run_begun.Goals as goal
 
 pub end-requires : goal.end-requires

@@ -3,10 +3,10 @@ use Rattle.std.proofs.KnownBytes.{Appends-trans}
 use Rattle.nl_types.specs.declared.error.VolError.TheVariants.{Memory}
 use Rattle.nl_texts.specs.RefusalTexts.{start_text}
 use Rattle.nl_texts.specs.declared.refusals.StartStep.TheVariants.{Start}
-use Rattle.nl_keeping.specs.Beginnings.{place_path}
-use Rattle.nl_keeping.specs.Endings.{Ends}
-use Rattle.nl_keeping.specs.Telling.{IsNoticed, Tells, errors_of, notice}
-use Rattle.nl_keeping.specs.declared.starting.StartFault.TheVariants.{Refused}
+use Rattle.nl_session.specs.Beginnings.{place_path}
+use Rattle.nl_session.specs.Endings.{Ends}
+use Rattle.nl_session.specs.Telling.{IsNoticed, Tells, errors_of, notice}
+use Rattle.nl_session.specs.declared.starting.StartFault.TheVariants.{Refused}
 use Rattle.nl_session.proofs.Starts.{no_memory}
 use Rattle.nl_session.proofs.sessions.run_with.Goals as goal
 

@@ -3,7 +3,7 @@ use Rattle.nl_arguments.specs.Meanings.{Asks}
 use Rattle.nl_arguments.specs.declared.asked.Asked.{Asked}
 use Rattle.nl_arguments.specs.declared.asked.Asked.TheVariants.{Help, Run, Version}
 use Rattle.nl_session.specs.Sessions.{Prints, printing_of, streams}
-use Rattle.nl_keeping.specs.Telling.{errors_of}
+use Rattle.nl_session.specs.Telling.{errors_of}
 use Rattle.nl_session.proofs.sessions.session.Goals as goal
 
 pub returns-in-Ok-Run : goal.returns-in-Ok-Run

@@ -2,7 +2,7 @@
 use Rattle.std.proofs.Common.{◌≡◌, Bool, true, false, ℕ, [], refl, subst, sym}
 use Rattle.nl_commit.specs.Layout.{Layout}
 use Rattle.nl_core.specs.PenImages.{CanBeClosed}
-use Rattle.nl_keeping.specs.Endings.{IsSettled}
+use Rattle.nl_session.specs.Endings.{IsSettled}
 
 -- what is settled can be closed, where nothing is mounted
 pub can_be_closed : (dirty : Bool) (moment : ℕ) (old new : Layout) → old.lists.dirty ≡ dirty

@@ -1,6 +1,6 @@
 use Rattle.std.proofs.Common.{refl}
-use Rattle.nl_keeping.proofs.Saves.{can_be_closed}
-use Rattle.nl_keeping.proofs.ending.image_of.Goals as goal
+use Rattle.nl_session.proofs.Saves.{can_be_closed}
+use Rattle.nl_session.proofs.ending.image_of.Goals as goal
 
 pub returns-clause-saved : goal.returns-clause-saved
 returns-clause-saved g c =

@@ -3,7 +3,7 @@
 ghost use Rattle.std.specs.Prelude.{◌≡◌, None, option_map, true};
 ghost use Rattle.nl_texts.specs.RefusalTexts.{start_text};
 ghost use Rattle.nl_texts.specs.StreamTexts.{stream_text};
-ghost use Rattle.nl_keeping.specs.Telling.{IsNoticed, Tells, configuration_step, configuration_text, errors_of, failure_text, fault_text, notice, path_given, words_text};
+ghost use Rattle.nl_session.specs.Telling.{IsNoticed, Tells, configuration_step, configuration_text, errors_of, failure_text, fault_text, notice, path_given, words_text};
 
 use crate::starting::StartFault;
 use nl_arguments::{Arguments, ArgumentsFault};

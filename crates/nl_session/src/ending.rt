@@ -1,14 +1,14 @@
 //! How a session ends behind its script: where that is asked for, the volume's image is saved.
 ghost use Rattle.std.specs.Prelude.{◌≡◌, IfErr, IfOk, IsOk, List, [], ℕ};
 ghost use Rattle.nl_texts.specs.Ends.{exit_status};
-ghost use Rattle.nl_keeping.specs.Beginnings.{place_path};
+ghost use Rattle.nl_session.specs.Beginnings.{place_path};
 ghost use Rattle.nl_commit.specs.Layout.{Does, Layout, unshared};
 ghost use Rattle.nl_types.specs.declared.event.Event.TheVariants as event;
 ghost use Rattle.nl_types.specs.declared.event.Mode.TheVariants as mode;
 ghost use Rattle.nl_texts.specs.Texts.{Text};
-ghost use Rattle.nl_keeping.specs.Endings as endings;
-ghost use Rattle.nl_keeping.specs.Endings.{IsSaveFault, IsSaveRefused, IsSettled, IsTextOf, IsUnsettled, SavesFrom, TellsEnd};
-ghost use Rattle.nl_keeping.specs.Telling.{Tells, TellsMore, errors_of};
+ghost use Rattle.nl_session.specs.Endings as endings;
+ghost use Rattle.nl_session.specs.Endings.{IsSaveFault, IsSaveRefused, IsSettled, IsTextOf, IsUnsettled, SavesFrom, TellsEnd};
+ghost use Rattle.nl_session.specs.Telling.{Tells, TellsMore, errors_of};
 
 use crate::telling::{SessionEnd, tell_stream};
 use nl_core::Pen;

@@ -1,9 +1,9 @@
 use Rattle.std.proofs.Common.{ℕ}
 use Rattle.std.proofs.lemmas.Result.{IfErr-weaker}
 use Rattle.nl_commit.specs.Layout.{Layout}
-use Rattle.nl_keeping.specs.Endings.{IsSaveFault}
-use Rattle.nl_keeping.specs.declared.ending.SaveFault.{SaveFault}
-use Rattle.nl_keeping.proofs.ending.save.Goals as goal
+use Rattle.nl_session.specs.Endings.{IsSaveFault}
+use Rattle.nl_session.specs.declared.ending.SaveFault.{SaveFault}
+use Rattle.nl_session.proofs.ending.save.Goals as goal
 
 pub returns-in-Ok-clause-saved : goal.returns-in-Ok-clause-saved
 returns-in-Ok-clause-saved g c = λ _. (c.in-Ok.image.items, c.in-Ok.ensures.saved)

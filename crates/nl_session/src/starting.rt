@@ -1,7 +1,7 @@
 //! What a session begins with: the place where it saves, and the pen of a new volume, or of an image.
 ghost use Rattle.std.specs.Prelude.{◌≡◌, IfErr, IfOk, List, None, ℕ};
 ghost use Rattle.nl_core.specs.Opened.{IsOpenRefusal};
-ghost use Rattle.nl_keeping.specs.Beginnings.{IsBegunBy, IsImageFault, IsMemoryOrFault, IsNewPen, IsOpenedPen, IsStartFault, image_fault, place_path, step_of};
+ghost use Rattle.nl_session.specs.Beginnings.{IsBegunBy, IsImageFault, IsMemoryOrFault, IsNewPen, IsOpenedPen, IsStartFault, image_fault, place_path, step_of};
 
 use crate::telling::save_path;
 use nl_arguments::Arguments;

@@ -1,8 +1,8 @@
 use Rattle.std.proofs.Common.{List, sym, ℕ}
 use Rattle.std.proofs.lemmas.Result.{IfOk-weaker}
 use Rattle.nl_commit.specs.Layout.{Layout}
-use Rattle.nl_keeping.specs.Beginnings.{IsBegunBy, IsOpenedPen, Kept}
-use Rattle.nl_keeping.proofs.starting.pen_for.Goals as goal
+use Rattle.nl_session.specs.Beginnings.{IsBegunBy, IsOpenedPen, Kept}
+use Rattle.nl_session.proofs.starting.pen_for.Goals as goal
 
 pub returns-in-Some-clause-begun : goal.returns-in-Some-clause-begun
 returns-in-Some-clause-begun g c =

@@ -11,10 +11,10 @@ use Rattle.nl_texts.specs.Ends.{exit_status}
 use Rattle.nl_texts.specs.declared.ends.Done.{Done}
 use Rattle.nl_texts.specs.RefusalTexts.{changed_text, save_text, unwritten_text}
 use Rattle.nl_texts.specs.Texts.{Text}
-use Rattle.nl_keeping.specs.Telling.{Errors, Tells, failure_text}
-use Rattle.nl_keeping.specs.declared.ending.SaveFault.{SaveFault}
-use Rattle.nl_keeping.specs.declared.ending.SaveFault.TheVariants as fault
-use Rattle.nl_keeping.specs.declared.telling.SessionEnd.{SessionEnd}
+use Rattle.nl_session.specs.Telling.{Errors, Tells, failure_text}
+use Rattle.nl_session.specs.declared.ending.SaveFault.{SaveFault}
+use Rattle.nl_session.specs.declared.ending.SaveFault.TheVariants as fault
+use Rattle.nl_session.specs.declared.telling.SessionEnd.{SessionEnd}
 
 -- a plain checkpoint is made where something is dirty
 abbrev pub IsSettled : (dirty : Bool) → (moment : ℕ) → Layout → Layout → Type 0

@@ -14,8 +14,8 @@ use Rattle.nl_texts.specs.declared.refusals.StartStep.TheVariants as step
 use Rattle.nl_texts.specs.declared.streams.StandardStream.{StandardStream}
 use Rattle.nl_saving.specs.declared.files.FileFault.{FileFault}
 use Rattle.nl_saving.specs.declared.files.FileFault.TheVariants as file
-use Rattle.nl_keeping.specs.declared.starting.StartFault.{StartFault}
-use Rattle.nl_keeping.specs.declared.starting.StartFault.TheVariants as start
+use Rattle.nl_session.specs.declared.starting.StartFault.{StartFault}
+use Rattle.nl_session.specs.declared.starting.StartFault.TheVariants as start
 
 -- the stream of errors before and after
 pub record Errors (E : Type 0) : Type 0 where

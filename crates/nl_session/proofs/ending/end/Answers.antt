@@ -1,8 +1,8 @@
 use Rattle.std.proofs.Common.{◌++◌, refl}
 use Rattle.std.proofs.KnownBytes.{Appends-trans}
-use Rattle.nl_keeping.specs.Endings.{Saved, Unsaved}
-use Rattle.nl_keeping.specs.Telling.{failure_text}
-use Rattle.nl_keeping.proofs.ending.end.Goals as goal
+use Rattle.nl_session.specs.Endings.{Saved, Unsaved}
+use Rattle.nl_session.specs.Telling.{failure_text}
+use Rattle.nl_session.proofs.ending.end.Goals as goal
 
 pub returns-in-Ok : goal.returns-in-Ok
 returns-in-Ok g c =

@@ -18,8 +18,8 @@ use Rattle.nl_texts.specs.declared.refusals.StartStep.TheVariants as step
 use Rattle.nl_saving.specs.declared.files.FileFault.{FileFault}
 use Rattle.nl_saving.specs.declared.files.FileFault.TheVariants as file
 use Rattle.nl_saving.specs.declared.saving.SavePlace.{SavePlace}
-use Rattle.nl_keeping.specs.declared.starting.StartFault.{StartFault}
-use Rattle.nl_keeping.specs.declared.starting.StartFault.TheVariants.{InUse, Unread, Refused}
+use Rattle.nl_session.specs.declared.starting.StartFault.{StartFault}
+use Rattle.nl_session.specs.declared.starting.StartFault.TheVariants.{InUse, Unread, Refused}
 
 -- the pen has this geometry and checkpoint 1 of the root alone, of moment 0
 pub record IsNewPen (geometry : Geometry) (l : Layout) : Type 0 where

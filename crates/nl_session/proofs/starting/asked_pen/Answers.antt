@@ -1,6 +1,6 @@
 use Rattle.std.proofs.Common.{refl}
-use Rattle.nl_keeping.specs.Beginnings.{New}
-use Rattle.nl_keeping.proofs.starting.asked_pen.Goals as goal
+use Rattle.nl_session.specs.Beginnings.{New}
+use Rattle.nl_session.proofs.starting.asked_pen.Goals as goal
 
 pub returns-in-Ok-new_pen-clause-begun : goal.returns-in-Ok-new_pen-clause-begun
 returns-in-Ok-new_pen-clause-begun c = record {
