@@ -2,10 +2,10 @@
 use Rattle.std.specs.Prelude.{◌≡◌, ◌⊎◌, ℕ, List, Result, Ok, Err}
 use Rattle.nl_types.specs.declared.error.VolError.{VolError}
 use Rattle.nl_types.specs.declared.error.VolError.TheVariants.{BadConfig}
-use Rattle.nl_config.specs.Configuration.{configuration_in}
-use Rattle.nl_config.specs.declared.amount.Amount.{Amount}
-use Rattle.nl_config.specs.declared.amount.Amount.TheVariants.{Count, Percent}
-use Rattle.nl_config.specs.declared.config.Config.{Config}
+use Rattle.nl_protect.specs.Configuration.{configuration_in}
+use Rattle.nl_protect.specs.declared.amount.Amount.{Amount}
+use Rattle.nl_protect.specs.declared.amount.Amount.TheVariants.{Count, Percent}
+use Rattle.nl_protect.specs.declared.config.Config.{Config}
 use Rattle.nl_c.specs.Statuses.{done, error_number, memory}
 use Rattle.nl_c.specs.declared.configuration.AmountTold.{AmountTold}
 use Rattle.nl_c.specs.declared.configuration.ConfigTold.{ConfigTold}

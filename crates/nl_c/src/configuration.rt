@@ -3,7 +3,7 @@ ghost use Rattle.std.specs.Prelude.{◌≡◌};
 ghost use Rattle.nl_c.specs.Configurations.{IsConfigTold, amount_told, config_told};
 
 use crate::status::{DONE, error_number};
-use nl_config::{Amount, Config};
+use nl_protect::{Amount, Config};
 use nl_types::VolError;
 use std::alloc::Global;
 

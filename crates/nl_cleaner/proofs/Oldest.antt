@@ -9,8 +9,8 @@ use Rattle.nl_types.specs.declared.reply.Answer.{Answer}
 use Rattle.nl_types.specs.declared.reply.Answer.TheVariants.{Freed}
 use Rattle.nl_types.specs.Plain.Worlds.{Reply}
 use Rattle.nl_vstore.specs.Located.{needed_count}
-use Rattle.nl_config.specs.declared.config.Config.{Config}
-use Rattle.nl_rounds.specs.Rounds.{ends_round}
+use Rattle.nl_protect.specs.declared.config.Config.{Config}
+use Rattle.nl_commit.specs.Rounds.{ends_round}
 use Rattle.nl_commit.specs.CleanerViews.{cleaning_event}
 use Rattle.nl_commit.specs.CleaningEvents.{needed_by}
 use Rattle.nl_commit.specs.Layout.{Layout}

@@ -9,9 +9,9 @@ use Rattle.nl_types.specs.declared.segment.SegmentState.TheVariants.{Clean, Dirt
 use Rattle.nl_types.specs.Blocks.Segments.{clean_segments, info_of}
 use Rattle.nl_types.specs.Plain.Worlds.{Reply}
 use Rattle.nl_vstore.specs.Located.{payload_count_in}
-use Rattle.nl_config.specs.declared.amount.Amount.{Amount}
-use Rattle.nl_config.specs.declared.config.Config.{Config}
-use Rattle.nl_config.specs.Configuration.{amount_of}
+use Rattle.nl_protect.specs.declared.amount.Amount.{Amount}
+use Rattle.nl_protect.specs.declared.config.Config.{Config}
+use Rattle.nl_protect.specs.Configuration.{amount_of}
 use Rattle.nl_commit.specs.CleanerViews.{needed_after}
 use Rattle.nl_commit.specs.Layout.{Layout}
 use Rattle.nl_commit.specs.Volume.{boundary_in}

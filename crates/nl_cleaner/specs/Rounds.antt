@@ -1,5 +1,5 @@
 -- Rounds of cleaning, as a shared volume knows them.
-use Rattle.nl_rounds.specs.Rounds.{RoundHabits}
+use Rattle.nl_commit.specs.Rounds.{RoundHabits}
 use Rattle.nl_cleaner.specs.Job.{JobView, job_after_reply, next_event, steps_left}
 use Rattle.nl_cleaner.specs.Plan.{IsPlan}
 

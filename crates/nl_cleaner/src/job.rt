@@ -3,9 +3,9 @@ ghost use Rattle.std.specs.Prelude.{◌≡◌, ◌<◌, MatchOption, OnSome};
 ghost use Rattle.nl_types.specs.declared.event.Event.{Event};
 ghost use Rattle.nl_cleaner.specs.Job.{IsOver, Stepped, next_event, job_after_reply, steps_left};
 
+use nl_commit::ends_round;
 use nl_core::Pen;
 use nl_device::Device;
-use nl_rounds::ends_round;
 use nl_types::{Answer, Event, Moment, Reply, Segment, VolError};
 use std::marker::Model;
 

@@ -9,9 +9,9 @@ ghost use Rattle.nl_cleaner.specs.Plan.{AreTaken, AreVictims, IsPlan, candidate_
 
 use crate::choice::{Candidate, choose, push_found};
 use crate::job::Job;
-use nl_config::Config;
 use nl_core::Pen;
 use nl_device::Device;
+use nl_protect::Config;
 use nl_sufile::SegmentCounts;
 use nl_types::{Moment, Segment, SegmentInfo, SegmentState, VolError};
 use std::alloc::{AllocError, Global};

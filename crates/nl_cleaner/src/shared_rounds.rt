@@ -1,10 +1,10 @@
 //! Rounds of cleaning beside readers.
 use crate::job::Job;
 use crate::planning::plan;
-use nl_config::Config;
+use nl_commit::Round;
 use nl_core::Pen;
 use nl_device::Device;
-use nl_rounds::Round;
+use nl_protect::Config;
 use nl_types::{Event, Moment, Reply, VolError};
 use std::alloc::Global;
 

@@ -7,3 +7,7 @@ mod Parsing
 mod Readings
 mod WordLists
 mod WordParts
+mod Deciding
+mod ExampleWords
+mod OneFault
+mod Requests

@@ -12,3 +12,7 @@ pub mod RangeWords
 pub mod SegmentCommands
 pub mod Splitting
 pub mod SplittingLaws
+pub mod Meanings
+pub mod SmallNumbers
+pub mod Options
+pub mod Statuses

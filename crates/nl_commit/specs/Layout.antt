@@ -21,7 +21,7 @@ use Rattle.nl_types.specs.Plain.Runs.{AllowedRefusals, Step, Run, unshared_refus
 use Rattle.nl_device.specs.Failures.{Failures}
 use Rattle.nl_layout.specs.Root.{root_of}
 use Rattle.nl_layout.specs.declared.root.Root.{Root}
-use Rattle.nl_space.specs.Content.{new_content}
+use Rattle.nl_vstore.specs.Content.{new_content}
 use Rattle.nl_device.specs.Pages.{DevicePages}
 use Rattle.nl_vstore.specs.Batches.{Changes, TakeLowestFree, items_of}
 use Rattle.nl_vstore.specs.Located.{needed_in}

@@ -12,3 +12,4 @@ pub mod Notes
 pub mod Laws
 pub mod CleanerViews
 pub mod Facts
+pub mod Rounds

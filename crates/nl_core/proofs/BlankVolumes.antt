@@ -3,7 +3,7 @@ use Rattle.std.proofs.Common.{◌≡◌, ◌∙◌}
 use Rattle.nl_types.specs.declared.geometry.Geometry.{Geometry}
 use Rattle.nl_device.specs.Failures.{Failures}
 use Rattle.nl_device.specs.Pages.{DevicePages}
-use Rattle.nl_space.specs.Content.{SpaceContent, new_content}
+use Rattle.nl_vstore.specs.Content.{SpaceContent, new_content}
 use Rattle.nl_vstore.specs.Stores.{Store, new_store}
 use Rattle.nl_commit.specs.Layout.{blank_layout, layout_of}
 use Rattle.nl_commit.specs.Tables.{blank_lists}

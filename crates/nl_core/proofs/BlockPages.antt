@@ -3,7 +3,7 @@ use Rattle.std.proofs.Common.{◌≡◌, ℕ, zero, suc, ◌+◌, ◌*◌, ◌<�
 use Rattle.std.specs.Prelude.{slice_get}
 use Rattle.std.proofs.Math.Nat.{mul-suc}
 use Rattle.std.proofs.lemmas.List.{drop-drop}
-use Rattle.nl_space.specs.Images.{page_bytes}
+use Rattle.nl_vstore.specs.Images.{page_bytes}
 
 -- the first pages of the bytes
 abbrev pub cut_pages : ℕ → List ℕ → List (List ℕ)

@@ -25,8 +25,8 @@ use Rattle.nl_core.specs.Private.Closed.{AreSized, HasSize, HaveSizes}
 use Rattle.nl_commit.specs.Layout.{IsPen, Layout, layout_of, layout_pages, reached_by}
 use Rattle.nl_commit.specs.CleaningEvents.{kept_numbers}
 use Rattle.nl_commit.specs.Volume.{Lists, kept_by}
-use Rattle.nl_counts.specs.Counted.{Counted}
-use Rattle.nl_counts.specs.Laws.{ReadsKeepCounts}
+use Rattle.nl_reclaim.specs.Counted.{Counted}
+use Rattle.nl_reclaim.specs.Laws.{ReadsKeepCounts}
 use Rattle.nl_events.specs.NeededBlocks.{IsCountedPen}
 use Rattle.nl_events.specs.Facts.CleanedPens.{all-held, content-of, same-content}
 use Rattle.nl_events.specs.Facts.KeptNumbers.{found-own}

@@ -7,9 +7,9 @@ use Rattle.std.proofs.lemmas.List.Elements.{All-head, All-tail}
 use Rattle.nl_types.specs.Blocks.Roots.{Pages, Root, pages_of}
 use Rattle.nl_types.specs.Blocks.Segments.{IsUsed, Segments, total_blocks}
 use Rattle.nl_layout.specs.declared.checkpoint_entry.CheckpointEntry.{CheckpointEntry}
-use Rattle.nl_space.specs.Images as blocks
-use Rattle.nl_space.specs.Images.{AreBlocksOf, IsPageOf}
-use Rattle.nl_space.specs.Facts.ImageBlocks.{page_there}
+use Rattle.nl_vstore.specs.Images as blocks
+use Rattle.nl_vstore.specs.Images.{AreBlocksOf, IsPageOf}
+use Rattle.nl_vstore.specs.FactsOfSpace.ImageBlocks.{page_there}
 use Rattle.nl_vstore.specs.Stores.{IsStore, Store, content_in, space_in}
 use Rattle.nl_dat.specs.declared.entries.DatEntry.{DatEntry}
 use Rattle.nl_dat.specs.Table.{dat_entry_of, numbers_shown}

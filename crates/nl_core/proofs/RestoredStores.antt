@@ -6,7 +6,7 @@ use Rattle.std.proofs.lemmas.List.{get_or_past}
 use Rattle.nl_types.specs.Blocks.Entries.{number_of}
 use Rattle.nl_types.specs.Blocks.Segments.{Segments, total_blocks}
 use Rattle.nl_device.specs.Failures.{Failures}
-use Rattle.nl_space.specs.Content.{HeldPayload, Payload, SpaceContent}
+use Rattle.nl_vstore.specs.Content.{HeldPayload, Payload, SpaceContent}
 use Rattle.nl_vstore.specs.Batches.{birth_of_item, number_of_payload}
 use Rattle.nl_vstore.specs.Stores.{Store, device_in, payload_in}
 use Rattle.nl_segwriter.specs.declared.images.Restored.{Restored}

@@ -2,7 +2,7 @@
 ghost use Rattle.std.specs.Prelude.{◌≡◌, ◌<◌, ◌≤◌, IfErr, IfOk, IsErrOf};
 ghost use Rattle.nl_types.specs.declared.error.VolError;
 ghost use Rattle.nl_types.specs.Blocks.Roots.{pages_of};
-ghost use Rattle.nl_space.specs.Appended.{IsLoadError};
+ghost use Rattle.nl_vstore.specs.Appended.{IsLoadError};
 ghost use Rattle.nl_vstore.specs.Stores.{KeepsStored, content_in};
 ghost use Rattle.nl_cpfile.specs.Tables as tables;
 ghost use Rattle.nl_image.specs.StoreImages.{IsSizedEntry};
@@ -10,15 +10,14 @@ ghost use Rattle.nl_core.specs.Private.Closed.{AreSized, HasSize, HaveSizes};
 ghost use Rattle.nl_core.specs.PenImages.{IsPenImage};
 
 use nl_check::size_of_blocks;
-use nl_counts::laws;
 use nl_cpfile::{Checkpoint, Checkpoints};
 use nl_dat::Dat;
 use nl_events::Parts;
 use nl_image::write_image;
 use nl_layout::CheckpointEntry;
-use nl_space::Space;
+use nl_reclaim::counting_laws;
 use nl_types::VolError;
-use nl_vstore::Vstore;
+use nl_vstore::{Space, Vstore};
 use std::alloc::Global;
 
 /// The entry of a checkpoint, with the size of its file of inodes. Refused by `Memory` alone.
@@ -88,7 +87,7 @@ pub fn image_of<S: Space>(parts: &mut Parts<Dat<S>>) -> Result<Vec<u8>, VolError
         → parts.old.store.failures < parts.new.store.failures }
     ensures errors { IfErr result IsLoadError }
 {
-    laws::counts_stay();
+    counting_laws::counts_stay();
     let entries = all_entries(parts.alloc, &parts.store, parts.tables.checkpoints())?;
     let image = write_image(parts.alloc, &mut parts.store, entries.as_slice())?;
     Ok(image)

@@ -12,12 +12,12 @@ ghost use Rattle.nl_core.specs.Opened.{IsAtRest, IsOpenRefusal, IsRestoredStore}
 ghost use Rattle.nl_core.specs.PenImages.{IsPenImage};
 
 use crate::pen::Pen;
-use nl_counts::NeededCounts;
 use nl_cpfile::Checkpoints;
 use nl_dat::{Dat, DatEntry};
 use nl_device::Device;
 use nl_events::Tables;
 use nl_image::{ReadImage, read_image};
+use nl_reclaim::NeededCounts;
 use nl_segwriter::{LogSpace, Restored};
 use nl_sufile::SegTable;
 use nl_types::{Items, VolError};

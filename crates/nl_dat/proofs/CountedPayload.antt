@@ -5,7 +5,7 @@ use Rattle.std.proofs.Math.Nat.{mul-le-mul_right}
 use Rattle.nl_types.specs.Blocks.Segments.{AreTidy, info_of}
 use Rattle.nl_types.specs.Facts.SegmentChanges.{room_of}
 use Rattle.nl_device.specs.Failures.{Failures}
-use Rattle.nl_space.specs.Content.{Payload, SpaceContent}
+use Rattle.nl_vstore.specs.Content.{Payload, SpaceContent}
 use Rattle.nl_dat.specs.declared.entries.DatEntry.{DatEntry}
 use Rattle.nl_dat.specs.Inside.{store_of}
 use Rattle.nl_vstore.specs.Located.{block_if, in_row, onto, picked, payload_block, payload_count_in}

@@ -4,7 +4,7 @@ use Rattle.std.specs.Option.{option_map}
 use Rattle.std.proofs.lemmas.List.{append-nil, length-take-le, take_more}
 use Rattle.nl_types.specs.Blocks.PartialMaps.{Partial}
 use Rattle.nl_layout.specs.declared.tag.Tag.{Tag}
-use Rattle.nl_space.specs.Content.{Payload, payload_tag}
+use Rattle.nl_vstore.specs.Content.{Payload, payload_tag}
 use Rattle.nl_dat.specs.declared.bdesc.Bdesc.{Bdesc}
 use Rattle.nl_dat.specs.Described.{desc_at, descs_from}
 

@@ -10,7 +10,7 @@ use Rattle.nl_types.specs.Blocks.PlacingLaws.{WhatFitsHasRoom}
 use Rattle.nl_types.specs.Blocks.PartialMaps.{Partial}
 use Rattle.nl_types.specs.Blocks.Entries.{Content}
 use Rattle.nl_device.specs.Failures.{Failures}
-use Rattle.nl_space.specs.Content.{SpaceContent}
+use Rattle.nl_vstore.specs.Content.{SpaceContent}
 use Rattle.nl_dat.specs.declared.entries.DatEntry.{DatEntry}
 use Rattle.nl_vstore.specs.Batches.{LacksSpaceFrom, Changes, CanBeTaken, IsLowestFree, is_born, is_taken, last_number}
 use Rattle.nl_dat.specs.Table.{AreInUse, IsFirstFree, entry_in, addresses_of, block_of}

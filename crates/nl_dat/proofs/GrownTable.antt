@@ -12,7 +12,7 @@ use Rattle.nl_types.specs.Blocks.PartialMaps.{Partial}
 use Rattle.nl_types.specs.Facts.UsedParts.{used_inside}
 use Rattle.nl_types.specs.Blocks.Segments.{AreTidy}
 use Rattle.nl_device.specs.Failures.{Failures}
-use Rattle.nl_space.specs.Content.{HoldsOnlyUsed, IsGrown, Payload, SpaceContent, payload_page}
+use Rattle.nl_vstore.specs.Content.{HoldsOnlyUsed, IsGrown, Payload, SpaceContent, payload_page}
 use Rattle.nl_vstore.specs.Batches.{birth_of_item}
 use Rattle.nl_vstore.specs.Stores.{HasGrown, device_in, numbered_in, payload_in}
 use Rattle.nl_dat.specs.declared.entries.DatEntry.{DatEntry}

@@ -7,7 +7,7 @@ use Rattle.std.proofs.lemmas.Bool.Decides.{nat_tests}
 use Rattle.nl_types.specs.Blocks.Segments.{Segments, AreTidy, info_of}
 use Rattle.nl_types.specs.Blocks.Entries.{number_of}
 use Rattle.nl_layout.specs.declared.tag.Tag.{Tag}
-use Rattle.nl_space.specs.Content.{Payload, SpaceContent, payload_tag, payload_page}
+use Rattle.nl_vstore.specs.Content.{Payload, SpaceContent, payload_tag, payload_page}
 use Rattle.nl_dat.specs.declared.entries.DatEntry.{DatEntry}
 use Rattle.nl_vstore.specs.Batches.{birth_of_item}
 use Rattle.nl_dat.specs.Table.{entry_in, addresses_of, block_of, stored_at}

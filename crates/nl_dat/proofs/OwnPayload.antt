@@ -12,8 +12,8 @@ use Rattle.nl_types.specs.Blocks.Entries.{number_of}
 use Rattle.nl_types.specs.Blocks.PartialMaps.{Partial}
 use Rattle.nl_types.specs.Blocks.Segments.{Segments, IsUsed, info_of}
 use Rattle.nl_sufile.specs.Table.{IsSegTable}
-use Rattle.nl_space.specs.Content.{HeldPayload, IsRowOf, Payload, SpaceContent, payload_page}
-use Rattle.nl_space.specs.Logs.{AreWholeLogs, FillUpTo, WholeLog}
+use Rattle.nl_vstore.specs.Content.{HeldPayload, IsRowOf, Payload, SpaceContent, payload_page}
+use Rattle.nl_vstore.specs.Logs.{AreWholeLogs, FillUpTo, WholeLog}
 use Rattle.nl_vstore.specs.Batches.{birth_of_item, number_of_payload}
 use Rattle.nl_dat.specs.declared.entries.DatEntry.{DatEntry}
 use Rattle.nl_dat.specs.Images.{HasOwn, IsTableOver}

@@ -10,7 +10,7 @@ use Rattle.nl_types.specs.Facts.SegmentChanges.{room_of}
 use Rattle.nl_types.specs.Blocks.PartialMaps.{Partial}
 use Rattle.nl_types.specs.Blocks.Entries.{number_of}
 use Rattle.nl_device.specs.Failures.{Failures}
-use Rattle.nl_space.specs.Content.{SpaceContent, IsFreed, payload_page}
+use Rattle.nl_vstore.specs.Content.{SpaceContent, IsFreed, payload_page}
 use Rattle.nl_dat.specs.declared.entries.DatEntry.{DatEntry}
 use Rattle.nl_dat.specs.declared.reclaim.TakenOut.{TakenOut}
 use Rattle.nl_vstore.specs.Batches.{birth_of_item}

@@ -9,8 +9,8 @@ use Rattle.nl_types.specs.declared.error.VolError.TheVariants.{NoSpace, Fault, M
 use Rattle.nl_types.specs.Blocks.Segments.{AreTidy, total_blocks}
 use Rattle.nl_types.specs.Blocks.Placing.{LacksSpace, with_logs}
 use Rattle.nl_device.specs.Failures.{CountsReads, CountsWrites, FailsToWrite, Failures, failure_count, no_failures}
-use Rattle.nl_space.specs.Content.{Payload, SpaceContent, KeepsUsed}
-use Rattle.nl_space.specs.Appended.{IsAppendError, IsBrokenOff, IsLoadError}
+use Rattle.nl_vstore.specs.Content.{Payload, SpaceContent, KeepsUsed}
+use Rattle.nl_vstore.specs.Appended.{IsAppendError, IsBrokenOff, IsLoadError}
 use Rattle.nl_vstore.specs.Batches.{Changes, items_of}
 use Rattle.nl_dat.specs.declared.entries.DatEntry.{DatEntry}
 use Rattle.nl_dat.specs.Table.{entry_in, addresses_of, block_of}

@@ -12,8 +12,8 @@ use Rattle.nl_types.specs.Blocks.Entries.{Birth, Content}
 use Rattle.nl_types.specs.Blocks.PartialMaps.{Partial, adjust, adjust_each, Stands}
 use Rattle.nl_types.specs.Facts.PartialMaps.{is_one_of-get_or}
 use Rattle.nl_device.specs.Failures.{Failures, CountsReads, FailsToRead, FailsToWrite}
-use Rattle.nl_space.specs.Content.{Payload, SpaceContent, KeepsUsed, payload_page}
-use Rattle.nl_space.specs.Appended.{IsAppended, IsAppendError, IsLoadError, IsBrokenOff}
+use Rattle.nl_vstore.specs.Content.{Payload, SpaceContent, KeepsUsed, payload_page}
+use Rattle.nl_vstore.specs.Appended.{IsAppended, IsAppendError, IsLoadError, IsBrokenOff}
 use Rattle.nl_dat.specs.declared.entries.DatEntry.{DatEntry}
 use Rattle.nl_vstore.specs.Batches.{birth_of_item, births_of, item_of_birth, items_of, tag_for}
 use Rattle.nl_dat.specs.Table.{entry_in, addresses_of, block_of, content_of, meaning_at, meaning_of, moved_entry, stored_at, HaveOwnPayload}

@@ -4,8 +4,8 @@ use Rattle.std.specs.Prelude.{slice_get}
 use Rattle.std.proofs.lemmas.Option.{slice_get_within}
 use Rattle.nl_types.specs.Blocks.Segments.{total_blocks}
 use Rattle.nl_device.specs.Failures.{Failures}
-use Rattle.nl_space.specs.Content.{SpaceContent}
-use Rattle.nl_space.specs.Images.{AreBlocksOf, IsPageOf}
+use Rattle.nl_vstore.specs.Content.{SpaceContent}
+use Rattle.nl_vstore.specs.Images.{AreBlocksOf, IsPageOf}
 use Rattle.nl_vstore.specs.Stores.{space_in}
 use Rattle.nl_dat.specs.declared.entries.DatEntry.{DatEntry}
 use Rattle.nl_dat.specs.Inside.{store_of}

@@ -7,7 +7,7 @@ use Rattle.nl_types.specs.Blocks.Segments.{AreTidy, info_of}
 use Rattle.nl_types.specs.Blocks.Placing.{blocks_from}
 use Rattle.nl_types.specs.Facts.SegmentChanges.{room_of}
 use Rattle.nl_device.specs.Failures.{Failures}
-use Rattle.nl_space.specs.Content.{HeldPayload, Payload, SpaceContent}
+use Rattle.nl_vstore.specs.Content.{HeldPayload, Payload, SpaceContent}
 use Rattle.nl_dat.specs.declared.entries.DatEntry.{DatEntry}
 use Rattle.nl_dat.specs.Inside.{store_of}
 use Rattle.nl_vstore.specs.Stores.{payload_in}

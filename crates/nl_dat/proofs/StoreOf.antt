@@ -11,8 +11,8 @@ use Rattle.nl_types.specs.Blocks.Entries.{Birth, Entry, number_of, period_of}
 use Rattle.nl_types.specs.Blocks.Roots.{pages_of}
 use Rattle.nl_types.specs.Facts.PartialMaps.{same_at_all}
 use Rattle.nl_sufile.specs.Table.{IsSegTable}
-use Rattle.nl_space.specs.Content.{Payload, SpaceContent, HoldsOnlyUsed, payload_page}
-use Rattle.nl_space.specs.Logs.{AreWholeLogs}
+use Rattle.nl_vstore.specs.Content.{Payload, SpaceContent, HoldsOnlyUsed, payload_page}
+use Rattle.nl_vstore.specs.Logs.{AreWholeLogs}
 use Rattle.nl_dat.specs.declared.entries.DatEntry.{DatEntry}
 use Rattle.nl_vstore.specs.Batches.{birth_of_item, tag_place, tag_for}
 use Rattle.nl_dat.specs.Table.{entry_in, addresses_of, block_of, content_of, meaning_of, meaning_at, period_of_entry, HaveOwnPayload, dat_entry_of}

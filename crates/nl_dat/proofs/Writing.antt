@@ -11,8 +11,8 @@ use Rattle.nl_types.specs.Blocks.PartialMaps.{Partial, put, put_each, put_all, a
 use Rattle.nl_types.specs.Blocks.Entries.{Birth, Content, number_of, born_at, ended_at, written}
 use Rattle.nl_types.specs.Facts.PartialMaps.{put-other, put-same}
 use Rattle.nl_device.specs.Failures.{Failures}
-use Rattle.nl_space.specs.Content.{Payload, SpaceContent, KeepsUsed, payload_page}
-use Rattle.nl_space.specs.Appended.{IsAppended}
+use Rattle.nl_vstore.specs.Content.{Payload, SpaceContent, KeepsUsed, payload_page}
+use Rattle.nl_vstore.specs.Appended.{IsAppended}
 use Rattle.nl_dat.specs.declared.entries.DatEntry.{DatEntry}
 use Rattle.nl_vstore.specs.Batches.{Changes, CanBeTaken, birth_of_item, births_of, items_of, is_born, is_live, last_number}
 use Rattle.nl_dat.specs.Table.{entry_in, addresses_of, content_of, meaning_at, new_entry, ended_entry, HaveOwnPayload}

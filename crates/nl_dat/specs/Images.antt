@@ -4,7 +4,7 @@ use Rattle.std.specs.Option.{option_map}
 use Rattle.nl_types.specs.Blocks.Entries.{number_of}
 use Rattle.nl_types.specs.Blocks.PartialMaps.{Partial}
 use Rattle.nl_types.specs.Blocks.Segments.{Segments, IsUsed, total_blocks}
-use Rattle.nl_space.specs.Content.{SpaceContent}
+use Rattle.nl_vstore.specs.Content.{SpaceContent}
 use Rattle.nl_dat.specs.declared.entries.DatEntry.{DatEntry}
 use Rattle.nl_dat.specs.EntryBytes.{HasSpelling, Spells, dat_bytes}
 use Rattle.nl_dat.specs.Inside.{births_in}

@@ -6,7 +6,7 @@ use Rattle.nl_types.specs.Blocks.Segments.{IsUsed, total_blocks}
 use Rattle.nl_types.specs.Blocks.PartialMaps.{Partial}
 use Rattle.nl_types.specs.Blocks.Entries.{Birth}
 use Rattle.nl_device.specs.Failures.{Failures, failure_count}
-use Rattle.nl_space.specs.Content.{Payload, SpaceContent, payload_page}
+use Rattle.nl_vstore.specs.Content.{Payload, SpaceContent, payload_page}
 use Rattle.nl_dat.specs.declared.entries.DatEntry.{DatEntry}
 use Rattle.nl_vstore.specs.Batches.{birth_of_item, births_of}
 use Rattle.nl_dat.specs.Table.{AreInUse, entry_in, addresses_of, meaning_of, stored_at, HaveOwnPayload}

@@ -7,7 +7,7 @@ use Rattle.std.proofs.lemmas.Bool.{cases_lt}
 use Rattle.nl_types.specs.declared.segment.Position.{Position}
 use Rattle.nl_types.specs.Blocks.Segments.{Segments, AreTidy, IsUsed, block_at, info_of}
 use Rattle.nl_types.specs.Facts.SegmentChanges.{room_of}
-use Rattle.nl_space.specs.Content.{SpaceContent}
+use Rattle.nl_vstore.specs.Content.{SpaceContent}
 use Rattle.nl_dat.specs.declared.entries.DatEntry.{DatEntry}
 use Rattle.nl_vstore.specs.Stores.{Store, IsStore}
 use Rattle.nl_dat.specs.Inside.{IsDatTable}

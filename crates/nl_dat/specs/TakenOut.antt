@@ -3,7 +3,7 @@ use Rattle.std.specs.Prelude.{◌≡◌, ◌≢◌, ℕ, ◌+◌, ◌<◌, ◌�
 use Rattle.nl_types.specs.Plain.NumberLists.{is_one_of, NoneTwice}
 use Rattle.nl_types.specs.Blocks.PartialMaps.{Partial}
 use Rattle.std.specs.Option.{option_map}
-use Rattle.nl_space.specs.Content.{Payload}
+use Rattle.nl_vstore.specs.Content.{Payload}
 use Rattle.nl_vstore.specs.Batches.{number_of_payload}
 use Rattle.nl_dat.specs.declared.entries.DatEntry.{DatEntry}
 use Rattle.nl_dat.specs.declared.reclaim.TakenOut.{TakenOut}

@@ -6,8 +6,8 @@ ghost use Rattle.nl_dat.specs.Described.{desc_at, descs_from};
 use crate::entries::{DatEntry, block_at};
 use crate::moving::row_tag;
 use nl_layout::{Level, Tag};
-use nl_space::Payload;
 use nl_types::{BlockNumber, InodeNumber};
+use nl_vstore::Payload;
 use std::alloc::{AllocError, Global};
 
 /// A payload block of a segment, as `nilfs_bdesc` of libnilfs has it: what it was written for, and where the

@@ -14,13 +14,12 @@ use crate::images::{have_own_payload, write_numbers};
 use crate::moving::{count_payload, load_all, row_tag};
 use crate::reclaim::take_out;
 use nl_layout::Tag;
-use nl_space::{Payload, Space};
 use nl_sufile::SegTable;
 use nl_types::{
     CheckpointNumber, Items, Page, Period, Segment, VirtualNumber, VolError, add_places,
     empty_places, laws,
 };
-use nl_vstore::{Batch, VRead, Vstore};
+use nl_vstore::{Batch, Payload, Space, VRead, Vstore};
 use std::alloc::{AllocError, Global};
 use std::marker::Model;
 
@@ -58,8 +57,8 @@ impl<S: Space> Dat<S> {
     ghost use Rattle.nl_vstore.specs.Summaries.{payload_row};
     ghost use Rattle.nl_dat.specs.Described.{descs_of};
     ghost use Rattle.nl_vstore.specs.Stores.{KeepsStored, new_store, address_in, block_in, capacity, numbered_in, space_in};
-    ghost use Rattle.nl_space.specs.Appended.{IsLoadError};
-    ghost use Rattle.nl_space.specs.Images.{AreBlocksOf};
+    ghost use Rattle.nl_vstore.specs.Appended.{IsLoadError};
+    ghost use Rattle.nl_vstore.specs.Images.{AreBlocksOf};
     ghost use Rattle.nl_dat.specs.EntryBytes.{dat_bytes};
     ghost use Rattle.nl_dat.specs.Images.{IsTableOver};
     ghost use Rattle.nl_dat.specs.Inside.{births_in};
@@ -138,7 +137,7 @@ impl<S: Space> Dat<S> {
             → self.old.store.failures < self.new.store.failures }
         ensures errors { IfErr result IsLoadError }
     {
-        nl_space::dump(&mut self.space, out)
+        nl_vstore::dump(&mut self.space, out)
     }
 
     /// A description of each payload block of the logs of a segment, in the order of the blocks, be their

@@ -7,8 +7,8 @@ ghost use Rattle.nl_vstore.specs.Batches.{births_of, number_of_payload};
 ghost use Rattle.std.specs.Option.{option_map};
 ghost use Rattle.nl_dat.specs.Table.{AreInUse, IsNumberWith, addresses_of, IsFirstFree, entry_in, new_entry, ended_entry, moved_entry};
 
-use nl_space::Payload;
 use nl_types::{BlockNumber, CheckpointNumber, Items, Period, Segment, VirtualNumber};
+use nl_vstore::Payload;
 use std::alloc::{AllocError, Global};
 
 /// What the table has for a number in use: where its page stands, and its period. As in the DAT of

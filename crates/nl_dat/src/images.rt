@@ -13,9 +13,9 @@ ghost use Rattle.nl_dat.specs.TakenOut.{HaveOwnBlocks};
 
 use crate::entries::{DatEntry, number_in};
 use crate::entry_bytes::{NUMBER_SIZE, read_number, write_number};
-use nl_space::Space;
 use nl_sufile::SegTable;
 use nl_types::{BlockNumber, CheckpointNumber, Items, Segment, VirtualNumber, VolError};
+use nl_vstore::Space;
 use std::alloc::{AllocError, Global};
 
 /// What refuses an image for its entries of numbers.

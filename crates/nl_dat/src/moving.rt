@@ -2,16 +2,16 @@
 ghost use Rattle.std.specs.Prelude.{◌≡◌, ◌+◌, ◌<◌, ◌^◌, [], length, All, IfOk, IfErr, IsErrOf, slice_index_or, None, Some};
 ghost use Rattle.std.specs.Option.{option_map};
 ghost use Rattle.nl_device.specs.Failures.{CountsReads, FailsToRead};
-ghost use Rattle.nl_space.specs.Content.{payload_tag};
-ghost use Rattle.nl_space.specs.Appended.{IsLoadError};
+ghost use Rattle.nl_vstore.specs.Content.{payload_tag};
+ghost use Rattle.nl_vstore.specs.Appended.{IsLoadError};
 ghost use Rattle.nl_vstore.specs.Batches.{birth_of_item};
 ghost use Rattle.nl_vstore.specs.Located.{block_if, in_row, onto, picked};
 ghost use Rattle.nl_dat.specs.Inside.{AreRead, IsBacked, StandsIn, birth_under};
 
 use crate::entries::{DatEntry, entry_at};
 use nl_layout::Tag;
-use nl_space::{Payload, Space};
 use nl_types::{Segment, VirtualNumber, VolError};
+use nl_vstore::{Payload, Space};
 use std::alloc::Global;
 
 /// What the summary says of the payload at a position of a row, if there is payload.

@@ -4,8 +4,8 @@ ghost use Rattle.nl_dat.specs.Table.{entry_in, addresses_of, has_block};
 ghost use Rattle.nl_dat.specs.TakenOut.{HaveOwnBlocks, TellsNumber, TellsNumbers, HasNone, HasTakenOne, HasTakenOut, one_more};
 
 use crate::entries::{DatEntry, entry_at, number_in};
-use nl_space::Payload;
 use nl_types::{Items, VirtualNumber};
+use nl_vstore::Payload;
 
 /// How many numbers were taken out of use, and the least of them.
 #[derive(Clone, Copy)]

@@ -11,9 +11,9 @@ use Rattle.nl_device.specs.Failures.{Failures}
 use Rattle.nl_device.specs.Pages.{DevicePages}
 use Rattle.nl_vstore.specs.Batches.{Changes}
 use Rattle.nl_vstore.specs.Stores.{IsStore, Store}
-use Rattle.nl_counts.specs.Counted.{Counted, IsCounted}
-use Rattle.nl_counts.specs.Events.{IsNextWritten}
-use Rattle.nl_counts.specs.Laws.{UnusedStoresAreCounted}
+use Rattle.nl_reclaim.specs.Counted.{Counted, IsCounted}
+use Rattle.nl_reclaim.specs.Events.{IsNextWritten}
+use Rattle.nl_reclaim.specs.Laws.{UnusedStoresAreCounted}
 use Rattle.nl_tree.specs.FirstTree.{nothing_held}
 use Rattle.nl_commit.specs.CleaningEvents.{kept_numbers}
 use Rattle.nl_commit.specs.Layout.{Layout, blank_layout}

@@ -6,7 +6,7 @@ use Rattle.std.specs.Option.{option_map}
 use Rattle.nl_types.specs.declared.period.Period.{Period}
 use Rattle.nl_types.specs.Blocks.Entries.{Birth, Entry, period_of}
 use Rattle.nl_vstore.specs.Batches.{birth_of_item, births_of}
-use Rattle.nl_space.specs.Content.{Payload}
+use Rattle.nl_vstore.specs.Content.{Payload}
 use Rattle.nl_vstore.specs.Stores.{Numbered, Store, entry_now, numbered_in}
 use Rattle.nl_commit.specs.Notes.{new_page, shown_page}
 use Rattle.nl_commit.specs.declared.commit.NewPage.{NewPage}

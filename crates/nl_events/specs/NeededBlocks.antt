@@ -9,7 +9,7 @@ use Rattle.nl_types.specs.declared.reply.Answer.TheVariants.{Expired, Removed}
 use Rattle.nl_device.specs.Failures.{Failures}
 use Rattle.nl_device.specs.Pages.{DevicePages}
 use Rattle.nl_vstore.specs.Batches.{Changes}
-use Rattle.nl_counts.specs.Counted.{Counted, IsCounted}
+use Rattle.nl_reclaim.specs.Counted.{Counted, IsCounted}
 use Rattle.nl_commit.specs.CleaningEvents.{kept_numbers}
 use Rattle.nl_commit.specs.Layout.{HasWrittenCheckpoint, IsPen, Layout, blank_layout}
 use Rattle.nl_commit.specs.Volume.{Lists}

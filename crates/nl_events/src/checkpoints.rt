@@ -3,7 +3,7 @@ ghost use Rattle.std.specs.Prelude.{◌≡◌, ◌≤◌, ◌∷◌, ◌++◌, [
 ghost use Rattle.nl_types.specs.declared.event.Event.TheVariants.{Checkpoint};
 ghost use Rattle.nl_vstore.specs.Batches.{births_of};
 ghost use Rattle.nl_vstore.specs.Stores.{Store, content_in};
-ghost use Rattle.nl_counts.specs.Counted.{IsCounted};
+ghost use Rattle.nl_reclaim.specs.Counted.{IsCounted};
 ghost use Rattle.nl_commit.specs.Draft.{CanBeDrafted, HasFewNames};
 ghost use Rattle.nl_commit.specs.Layout.{HasRefused, layout_of};
 ghost use Rattle.nl_commit.specs.Notes.{DoesTelling, made_where, new_checkpoint, new_page, told_where};
@@ -14,11 +14,10 @@ use crate::notes::Notes;
 use crate::parts::Parts;
 use crate::tables::Tables;
 use nl_commit::{Commit, Draft, NewPage, Written};
-use nl_counts::NeededCounts;
 use nl_cpfile::Checkpoint as Kept;
-use nl_space::Payload;
+use nl_reclaim::NeededCounts;
 use nl_types::{Answer, Items, Mode, Reply, VolError};
-use nl_vstore::{Batch, Vstore};
+use nl_vstore::{Batch, Payload, Vstore};
 use std::alloc::{AllocError, Global};
 
 /// The pages of births, under their numbers.
@@ -112,7 +111,7 @@ impl<V: Vstore> Parts<V> {
         ensures { DoesTelling N.told self.old (Checkpoint mode moment) result self.new
             (N.commits notes.old) (N.commits notes.new) }
     {
-        nl_counts::laws::refusals_keep_counts();
+        nl_reclaim::counting_laws::refusals_keep_counts();
         let draft = write_checkpoint(
             self.alloc,
             &mut self.tables,

@@ -44,9 +44,9 @@ impl<V: Vstore> Parts<V> {
             (N.commits notes.old) (N.commits notes.new) }
     {
         nl_reclaim::laws::listed_moves_are_moves();
-        nl_counts::laws::first_needed_stand_there();
-        nl_counts::laws::refusals_keep_counts();
-        nl_counts::laws::counts_stay();
+        nl_reclaim::counting_laws::first_needed_stand_there();
+        nl_reclaim::counting_laws::refusals_keep_counts();
+        nl_reclaim::counting_laws::counts_stay();
         let listed = list_needed(self.alloc, &self.store, &self.tables, segment, limit)?;
         if listed.first.as_slice().is_empty() {
             return Ok(Answer::Moved { moved: 0, left: 0 });
@@ -158,7 +158,7 @@ impl<V: Vstore> Parts<V> {
     fn empty(&mut self, segment: Segment) -> Reply
         ensures { Does unshared self.old (Retire segment) result self.new }
     {
-        nl_counts::laws::counts_stay();
+        nl_reclaim::counting_laws::counts_stay();
         let count = self.needed.get(segment)?;
         let freed = retire(&mut self.store, count, segment)?;
         Ok(Answer::Freed(freed))

@@ -3,13 +3,13 @@ ghost use Rattle.std.specs.Prelude.{◌≡◌, ◌<◌, ◌≤◌, ℕ, List, le
 ghost use Rattle.nl_cpfile.specs.Tables.{ComesNext};
 ghost use Rattle.nl_vstore.specs.Batches.{CanBeTaken};
 ghost use Rattle.nl_vstore.specs.Stores.{IsWriteRefused, IsWritten, Store, capacity, content_in};
-ghost use Rattle.nl_counts.specs.Counted.{IsCounted};
+ghost use Rattle.nl_reclaim.specs.Counted.{IsCounted};
 ghost use Rattle.nl_commit.specs.Draft.{CanBeDrafted, HasFewNames, IsDraftRefusal, IsNextDraft};
 ghost use Rattle.nl_commit.specs.Volume.{published};
 
 use crate::tables::Tables;
 use nl_commit::Draft;
-use nl_counts::NeededCounts;
+use nl_reclaim::NeededCounts;
 use nl_types::{CheckpointNumber, Mode, VolError};
 use nl_vstore::Vstore;
 use std::alloc::Global;

@@ -12,7 +12,7 @@ use crate::checkpoints::write_checkpoint;
 use crate::notes::NoNotes;
 use crate::parts::Parts;
 use crate::tables::Tables;
-use nl_counts::{NeededCounts, laws};
+use nl_reclaim::{NeededCounts, counting_laws};
 use nl_types::{CheckpointNumber, Mode, VolError};
 use nl_vstore::Vstore;
 use std::alloc::Global;
@@ -38,7 +38,7 @@ fn first_checkpoint<V: Vstore>(
     ensures pen { OnOk result (IsCountedPen (layout_of tables.new.lists (V.store store.new)) needed.new) }
     ensures refused { IfErr result (λ e. (e ≡ VolError.Memory) ⊎ (e ≡ VolError.Fault)) }
 {
-    laws::unused_stores_are_counted();
+    counting_laws::unused_stores_are_counted();
     let draft = write_checkpoint(alloc, tables, store, needed, Mode::Plain, now, &mut NoNotes)?;
     needed.written(&*store, &draft.batch, draft.checkpoint.number);
     tables.forget_earlier();

@@ -4,7 +4,7 @@ ghost use Rattle.nl_commit.specs.Layout.{IsPen, layout_of};
 ghost use Rattle.nl_commit.specs.Volume.{without_mounts};
 
 use crate::tables::Tables;
-use nl_counts::NeededCounts;
+use nl_reclaim::NeededCounts;
 use nl_vstore::Vstore;
 use std::alloc::Global;
 use std::marker::Model;

@@ -7,7 +7,7 @@ ghost use Rattle.nl_commit.specs.Volume.{IsTakenOut, Lists};
 
 use crate::parts::Parts;
 use crate::tables::Tables;
-use nl_counts::NeededCounts;
+use nl_reclaim::NeededCounts;
 use nl_types::{Answer, CheckpointNumber, Moment, Reply};
 use nl_vstore::Vstore;
 

@@ -3,7 +3,7 @@ ghost use Rattle.std.specs.Prelude.{◌≡◌, ◌≤◌, nat_lt, length, Ok, Er
 ghost use Rattle.nl_types.specs.declared.event.Event.TheVariants.{Resize};
 ghost use Rattle.nl_types.specs.declared.reply.Answer.TheVariants.{Done};
 ghost use Rattle.nl_types.specs.Plain.Limits.{IsGeometry};
-ghost use Rattle.nl_counts.specs.Counted.{with_segments};
+ghost use Rattle.nl_reclaim.specs.Counted.{with_segments};
 ghost use Rattle.nl_vstore.specs.Stores.{HasGrown, IsGrowthRefused};
 ghost use Rattle.nl_commit.specs.CleaningEvents.{resized_in};
 ghost use Rattle.nl_commit.specs.Notes.{DoesTelling};
@@ -11,7 +11,7 @@ ghost use Rattle.nl_commit.specs.Notes.{DoesTelling};
 use crate::notes::Notes;
 use crate::parts::Parts;
 use nl_commit::Commit;
-use nl_counts::{NeededCounts, laws};
+use nl_reclaim::{NeededCounts, counting_laws};
 use nl_sufile::SegTable;
 use nl_types::{Answer, Geometry, Reply, VolError};
 use nl_vstore::Vstore;
@@ -49,7 +49,7 @@ fn add_segments<V: Vstore>(
     ensures same { OnErr result (needed.new ≡ needed.old) }
     ensures counted { (V.store store.old).failures ≤ (V.store store.new).failures }
 {
-    laws::growth_keeps_counts();
+    counting_laws::growth_keeps_counts();
     let present = store.table().sustat().segments as u32;
     needed.grow(alloc, segments)?;
     let grown = store.grow(alloc, segments);
@@ -67,7 +67,7 @@ impl<V: Vstore> Parts<V> {
         ensures { DoesTelling N.told self.old (Resize segments) result self.new
             (N.commits notes.old) (N.commits notes.new) }
     {
-        laws::growth_keeps_counts();
+        counting_laws::growth_keeps_counts();
         if !adds_segments(self.store.table(), segments)? {
             return Ok(Answer::Done);
         }

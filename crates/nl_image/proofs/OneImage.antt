@@ -13,8 +13,8 @@ use Rattle.nl_layout.specs.Root.{fields_of, root_of, root_told}
 use Rattle.nl_layout.specs.declared.checkpoint_entry.CheckpointEntry.{CheckpointEntry}
 use Rattle.nl_layout.specs.declared.root.Root as layout
 use Rattle.nl_layout.specs.declared.root.Root.TheVariants.{Chain, Empty, Tree}
-use Rattle.nl_space.specs.Content.{SpaceContent}
-use Rattle.nl_space.specs.Images.{AreBlocksOf, IsPageOf, page_bytes}
+use Rattle.nl_vstore.specs.Content.{SpaceContent}
+use Rattle.nl_vstore.specs.Images.{AreBlocksOf, IsPageOf, page_bytes}
 use Rattle.nl_vstore.specs.Stores.{Store, content_in, space_in}
 use Rattle.nl_cpfile.specs.declared.checkpoint.Checkpoint.{Checkpoint}
 use Rattle.nl_check.specs.Conditions.{AreShaped, IsSoundShape}

@@ -6,9 +6,9 @@ use Rattle.std.proofs.Math.Seq.{drop-append-add, take-append_seam}
 use Rattle.std.proofs.lemmas.Option.{same_Some, slice_get-get_or}
 use Rattle.nl_types.specs.Blocks.Segments.{AreTidy, IsUsed, total_blocks}
 use Rattle.nl_types.specs.Facts.UsedParts.{used_inside}
-use Rattle.nl_space.specs.Content.{SpaceContent}
-use Rattle.nl_space.specs.Images.{AreBlocksOf, IsRestAt, IsRestZero, IsWhole, page_bytes, pages_of_bytes}
-use Rattle.nl_space.specs.Facts.ImageBlocks.{page_there, rest_zero}
+use Rattle.nl_vstore.specs.Content.{SpaceContent}
+use Rattle.nl_vstore.specs.Images.{AreBlocksOf, IsRestAt, IsRestZero, IsWhole, page_bytes, pages_of_bytes}
+use Rattle.nl_vstore.specs.FactsOfSpace.ImageBlocks.{page_there, rest_zero}
 
 -- ---- whole pages, one after the other
 

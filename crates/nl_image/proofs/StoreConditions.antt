@@ -12,7 +12,7 @@ use Rattle.nl_layout.specs.Superblock.{HasMark, mark_bytes, superblock_bytes}
 use Rattle.nl_layout.specs.declared.superblock.Mark.{Mark}
 use Rattle.nl_layout.specs.declared.superblock.Mark.TheVariants.{First, Second}
 use Rattle.nl_layout.specs.declared.superblock.Superblock.{Superblock}
-use Rattle.nl_space.specs.Images.{IsRestZero, pages_of_bytes}
+use Rattle.nl_vstore.specs.Images.{IsRestZero, pages_of_bytes}
 use Rattle.nl_vstore.specs.Periods.{Periods, periods_of}
 use Rattle.nl_vstore.specs.Stores.{IsStore, Store, content_in, device_in, space_in}
 use Rattle.nl_cpfile.specs.declared.checkpoint.Checkpoint.{Checkpoint}

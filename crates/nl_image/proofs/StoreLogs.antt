@@ -10,9 +10,9 @@ use Rattle.std.proofs.lemmas.List.FromFn.{get_or-map-range_with_len, length-map-
 use Rattle.nl_types.specs.Blocks.Segments.{IsUsed, total_blocks}
 use Rattle.nl_types.specs.Facts.UsedParts.{used_inside}
 use Rattle.nl_device.specs.Pages.{DevicePages}
-use Rattle.nl_space.specs.Content.{HeldPayload, Payload}
-use Rattle.nl_space.specs.Logs.{FillUpTo, StandsFrom, WholeLog}
-use Rattle.nl_space.specs.Facts.KeptLogs.{fill_kept}
+use Rattle.nl_vstore.specs.Content.{HeldPayload, Payload}
+use Rattle.nl_vstore.specs.Logs.{FillUpTo, StandsFrom, WholeLog}
+use Rattle.nl_vstore.specs.FactsOfSpace.KeptLogs.{fill_kept}
 use Rattle.nl_vstore.specs.Stores.{IsStore, Store, device_in, payload_in, space_in}
 use Rattle.nl_vstore.specs.Summaries.{IsOfLogs, payload_row}
 use Rattle.nl_vstore.specs.Facts.StoredLogs.{one_list_stands, row-of_logs}

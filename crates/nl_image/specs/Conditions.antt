@@ -9,8 +9,8 @@ use Rattle.nl_layout.specs.declared.checkpoint_entry.CheckpointEntry.{Checkpoint
 use Rattle.nl_layout.specs.declared.superblock.Superblock.{Superblock}
 use Rattle.nl_layout.specs.Superblock.{HasMark, Spells}
 use Rattle.nl_sufile.specs.Images.{IsSufileOf}
-use Rattle.nl_space.specs.Content.{Payload}
-use Rattle.nl_space.specs.Images.{IsRestZero, pages_of_bytes}
+use Rattle.nl_vstore.specs.Content.{Payload}
+use Rattle.nl_vstore.specs.Images.{IsRestZero, pages_of_bytes}
 use Rattle.nl_vstore.specs.Batches.{number_of_payload}
 use Rattle.nl_vstore.specs.Periods.{Periods}
 use Rattle.nl_segwriter.specs.Images.{HoldLogs}

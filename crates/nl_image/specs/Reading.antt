@@ -6,8 +6,8 @@ use Rattle.nl_types.specs.Blocks.Segments as segments
 use Rattle.nl_types.specs.Blocks.Segments.{Segments, total_blocks}
 use Rattle.nl_layout.specs.declared.checkpoint_entry.CheckpointEntry.{CheckpointEntry}
 use Rattle.nl_layout.specs.declared.superblock.Superblock.{Superblock}
-use Rattle.nl_space.specs.Content.{HeldPayload, Payload}
-use Rattle.nl_space.specs.Images.{IsRestZero, pages_of_bytes}
+use Rattle.nl_vstore.specs.Content.{HeldPayload, Payload}
+use Rattle.nl_vstore.specs.Images.{IsRestZero, pages_of_bytes}
 use Rattle.nl_segwriter.specs.declared.images.Restored.{Restored}
 use Rattle.nl_segwriter.specs.Images as spaces
 use Rattle.nl_segwriter.specs.Images.{HoldLogs, IsRestored, page_in}

@@ -9,7 +9,7 @@ use Rattle.nl_layout.specs.Checkpoints as checkpoints
 use Rattle.nl_layout.specs.Root.{root_of}
 use Rattle.nl_layout.specs.Segment as segments
 use Rattle.nl_layout.specs.Superblock as superblock
-use Rattle.nl_space.specs.Images.{AreBlocksOf}
+use Rattle.nl_vstore.specs.Images.{AreBlocksOf}
 use Rattle.nl_vstore.specs.Stores.{Store, content_in, space_in}
 use Rattle.nl_dat.specs.EntryBytes as numbers
 use Rattle.nl_dat.specs.Table.{numbers_shown}

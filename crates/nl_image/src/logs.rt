@@ -1,6 +1,6 @@
 //! The logs of an image, and whose their payload is.
 ghost use Rattle.std.specs.Prelude.{◌≡◌, ◌↔◌, IfErr, IfOk, IsTrue};
-ghost use Rattle.nl_space.specs.Images.{pages_of_bytes};
+ghost use Rattle.nl_vstore.specs.Images.{pages_of_bytes};
 ghost use Rattle.nl_segwriter.specs.Images.{IsRestored};
 ghost use Rattle.nl_segwriter.specs.Writing.{held_in};
 ghost use Rattle.nl_image.specs.Conditions.{HasLogs};
@@ -11,9 +11,8 @@ use crate::tables::ImageTables;
 use nl_check::ImageCondition;
 use nl_dat::DatEntry;
 use nl_segwriter::Restored;
-use nl_space::Payload;
 use nl_types::VolError;
-use nl_vstore::laws;
+use nl_vstore::{Payload, laws};
 use std::alloc::Global;
 
 /// The logs of an image. Refused by `BadImage(7)` where the used part of a segment isn't whole logs, or the

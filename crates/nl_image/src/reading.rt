@@ -12,9 +12,9 @@ use nl_check::{ImageCondition, first_fault};
 use nl_dat::DatEntry;
 use nl_layout::CheckpointEntry;
 use nl_segwriter::Restored;
-use nl_space::is_rest_zero;
 use nl_sufile::SegTable;
 use nl_types::{Geometry, Items, VolError};
+use nl_vstore::is_rest_zero;
 use std::alloc::Global;
 
 /// What the bytes of an image tell.

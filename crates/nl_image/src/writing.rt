@@ -6,7 +6,7 @@ ghost use Rattle.nl_layout.specs.Superblock.{superblock_bytes};
 ghost use Rattle.nl_layout.specs.Superblock as superblocks;
 ghost use Rattle.nl_layout.specs.Segment as segments;
 ghost use Rattle.nl_layout.specs.Checkpoints as checkpoints;
-ghost use Rattle.nl_space.specs.Appended.{IsLoadError};
+ghost use Rattle.nl_vstore.specs.Appended.{IsLoadError};
 ghost use Rattle.nl_vstore.specs.Stores.{KeepsStored, capacity};
 ghost use Rattle.nl_dat.specs.EntryBytes as numbers;
 ghost use Rattle.nl_dat.specs.Table.{numbers_shown};
@@ -16,9 +16,8 @@ ghost use Rattle.nl_image.specs.StoreImages.{IsShapeOfStore, IsSpelledOf, parts_
 use nl_cpfile::write_checkpoints;
 use nl_dat::Dat;
 use nl_layout::{CheckpointEntry, Mark, Superblock};
-use nl_space::Space;
 use nl_types::{BLOCK_SIZE, VolError};
-use nl_vstore::Vstore;
+use nl_vstore::{Space, Vstore};
 use std::alloc::Global;
 
 /// The image of a store, with these entries of checkpoints, whatever they name. Each used block is loaded

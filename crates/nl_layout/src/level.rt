@@ -4,7 +4,7 @@ ghost use Rattle.std.specs.Prelude.{◌≡◌, ◌≤◌, ℕ};
 use std::marker::Model;
 
 /// 0 for data, and 1 to 3 for the nodes above it, the lowest nodes first. All nodes of a chain have 1.
-#[derive(Clone, Copy, PartialEq, Eq, PartialOrd, Ord)]
+#[derive(Clone, Copy, PartialEq, Eq)]
 pub struct Level {
     height: u8,
 }

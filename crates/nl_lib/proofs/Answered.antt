@@ -26,10 +26,10 @@ use Rattle.nl_types.specs.Facts.EventCases.{either_gives}
 use Rattle.nl_types.specs.Facts.Judgements.{and_then_any, refuse_if_then}
 use Rattle.nl_commit.specs.Layout.{Becomes, Does, IsPen, Layout, cleaned, unshared}
 use Rattle.nl_events.specs.Facts.Ledgers.{same-numbers}
-use Rattle.nl_calls.specs.Changes.{change_at}
-use Rattle.nl_calls.specs.Replies.{IsReplyWith, reply_with}
-use Rattle.nl_calls.specs.declared.changes.PathCall.{PathCall}
-use Rattle.nl_calls.specs.declared.changes.PathCall.TheVariants as call
+use Rattle.nl_types.specs.Changes.{change_at}
+use Rattle.nl_types.specs.Replies.{IsReplyWith, reply_with}
+use Rattle.nl_types.specs.declared.changes.PathCall.{PathCall}
+use Rattle.nl_types.specs.declared.changes.PathCall.TheVariants as call
 
 -- ---- what worlds answer
 

@@ -6,7 +6,7 @@ use Rattle.nl_types.specs.declared.event.Mode.TheVariants.{Plain}
 use Rattle.nl_types.specs.declared.reply.Answer.TheVariants as answer
 use Rattle.nl_types.specs.Plain.Worlds.{Reply}
 use Rattle.nl_commit.specs.Layout.{Layout, Does, unshared}
-use Rattle.nl_calls.specs.Replies.{reply_with}
+use Rattle.nl_types.specs.Replies.{reply_with}
 
 -- the reply to an event that answers nothing
 abbrev pub done_reply : Result (Unit {0}) VolError → Reply

@@ -5,12 +5,14 @@ ghost use Rattle.nl_types.specs.declared.event.Ask.TheVariants as ask;
 ghost use Rattle.nl_types.specs.declared.event.Event.TheVariants.{Listing, Read};
 ghost use Rattle.nl_types.specs.declared.reply.Answer.TheVariants as answer;
 ghost use Rattle.nl_commit.specs.Layout.{Does, unshared};
-ghost use Rattle.nl_calls.specs.Replies.{reply_with};
+ghost use Rattle.nl_types.specs.Replies.{reply_with};
 
-use nl_calls::{bytes_read, names_listed, rows_listed, stat_told};
 use nl_core::Pen;
 use nl_device::Device;
-use nl_types::{Ask, Event, Items, ListOptions, Named, Row, Stat, VolError};
+use nl_types::{
+    Ask, Event, Items, ListOptions, Named, Row, Stat, VolError, bytes_read, names_listed,
+    rows_listed, stat_told,
+};
 use std::alloc::Global;
 
 /// What is told of the kept checkpoints that a listing shows, in its order. Refused by `Memory` alone.

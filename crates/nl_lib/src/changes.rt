@@ -7,13 +7,12 @@ ghost use Rattle.nl_types.specs.declared.reply.Answer.TheVariants as answer;
 ghost use Rattle.nl_types.specs.Plain.Worlds as worlds;
 ghost use Rattle.nl_types.specs.Plain.Worlds.{World};
 ghost use Rattle.nl_commit.specs.Layout.{Does, MeansWorld, unshared};
-ghost use Rattle.nl_calls.specs.Replies.{reply_with};
+ghost use Rattle.nl_types.specs.Replies.{reply_with};
 ghost use Rattle.nl_lib.specs.Calls.{Syncs, done_reply};
 
-use nl_calls::{range_removed, without_answer};
 use nl_core::Pen;
 use nl_device::Device;
-use nl_types::{CheckpointNumber, Event, Mode, Range, VolError};
+use nl_types::{CheckpointNumber, Event, Mode, Range, VolError, range_removed, without_answer};
 
 /// Applies an event whose answer isn't needed.
 pub(crate) fn apply<D: Device>(pen: &mut Pen<D>, event: Event) -> Result<(), VolError>

@@ -8,15 +8,14 @@ ghost use Rattle.nl_types.specs.declared.event.Change.TheVariants as change;
 ghost use Rattle.nl_types.specs.declared.event.Event.TheVariants.{Apply};
 ghost use Rattle.nl_types.specs.declared.reply.Answer.TheVariants as answer;
 ghost use Rattle.nl_commit.specs.Layout.{Does, unshared};
-ghost use Rattle.nl_calls.specs.Changes.{change_at};
-ghost use Rattle.nl_calls.specs.Replies.{reply_with};
+ghost use Rattle.nl_types.specs.Changes.{change_at};
+ghost use Rattle.nl_types.specs.Replies.{reply_with};
 ghost use Rattle.nl_lib.specs.Calls.{done_reply};
 
 use crate::changes::apply;
-use nl_calls::{PathCall, copies, written};
 use nl_core::Pen;
 use nl_device::Device;
-use nl_types::{Change, Event, Items, VolError};
+use nl_types::{Change, Event, Items, PathCall, VolError, copies, written};
 use std::alloc::Global;
 
 /// Changes what stands at a path.

@@ -9,8 +9,8 @@ use Rattle.nl_commit.specs.Commits.{shown_after}
 use Rattle.nl_publish.specs.Mounts.{Claim}
 use Rattle.nl_publish.specs.Told.{TreeOn}
 use Rattle.nl_publish.specs.Histories.{Known}
-use Rattle.nl_lanes.specs.Facts.Later.{later_on}
-use Rattle.nl_lanes.specs.Reading.{IsLater, Told}
+use Rattle.nl_publish.specs.FactsOfLanes.Later.{later_on}
+use Rattle.nl_publish.specs.Reading.{IsLater, Told}
 use Rattle.nl_mounts.specs.OpenFiles.{ArePartsRead, HasReadMore, IsFileRead, IsPartRefused, IsReadUpTo, bytes_at}
 use Rattle.nl_mounts.specs.Ports.{IsNotRead}
 

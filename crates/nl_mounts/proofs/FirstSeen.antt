@@ -6,8 +6,8 @@ use Rattle.nl_types.specs.Plain.Worlds.{Reply}
 use Rattle.nl_publish.specs.Histories.{Known}
 use Rattle.nl_publish.specs.Locks.{HeldPen, Ran, told_by}
 use Rattle.nl_publish.specs.Locks as locks
-use Rattle.nl_lanes.specs.Reading.{IsLater}
-use Rattle.nl_lanes.specs.Facts.Later.{later_on}
+use Rattle.nl_publish.specs.Reading.{IsLater}
+use Rattle.nl_publish.specs.FactsOfLanes.Later.{later_on}
 use Rattle.nl_mounts.specs.Ports.{PortView, fresh}
 use Rattle.nl_mounts.specs.Sharing.{IsKnownTo}
 

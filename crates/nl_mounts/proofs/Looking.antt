@@ -19,7 +19,7 @@ use Rattle.nl_publish.specs.States.{IsWhole, Kept, Looks}
 use Rattle.nl_publish.specs.Mounts.{Claim, IsClaim}
 use Rattle.nl_publish.specs.Told.{HistoriesShowStates, MountsBegin, MountsStay, TreeOn}
 use Rattle.nl_mounts.specs.declared.looks.MountedTree.{MountedTree}
-use Rattle.nl_lanes.specs.Reading.{Entered, Foreign, IsLater, Looked, NoState, NoMount, Told}
+use Rattle.nl_publish.specs.Reading.{Entered, Foreign, IsLater, Looked, NoState, NoMount, Told}
 use Rattle.nl_mounts.specs.Ports.{Finds, HasTreeIn, IsMountTree, IsOfTree, IsSeenOn, IsUngiven, Lacks, LookView, Made, Misses, NotGiven, NotMade, OfAnother, PortView, Shows, mounted_tree, seeing, tree_of, vacant}
 
 -- ---- the rule of states

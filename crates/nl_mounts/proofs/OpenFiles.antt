@@ -25,7 +25,7 @@ use Rattle.nl_publish.specs.Mounts.{Claim, IsClaim}
 use Rattle.nl_publish.specs.Told.{TreeOn}
 use Rattle.nl_publish.specs.Facts.KeptHoldings.{kept_holdings_stay, mounts_hold}
 use Rattle.nl_publish.specs.Facts.Staying.{history_state}
-use Rattle.nl_lanes.specs.Facts.Later.{later_self}
+use Rattle.nl_publish.specs.FactsOfLanes.Later.{later_self}
 use Rattle.nl_publish.specs.declared.reader_state.ReaderState.{ReaderState}
 use Rattle.nl_mounts.specs.declared.looks.MountedTree.{MountedTree}
 use Rattle.nl_mounts.specs.OpenFiles.{HoldsAsTold, IsFileOf, IsFileRead, IsOpenOf, IsPartRefused, bytes_at}

@@ -1,7 +1,7 @@
 -- Ports as readers of many files.
 use Rattle.std.proofs.Common.{List, [], ◌∷◌}
 use Rattle.nl_publish.specs.Histories.{Known}
-use Rattle.nl_lanes.specs.Jobs.{AreLaterReaders}
+use Rattle.nl_publish.specs.Jobs.{AreLaterReaders}
 use Rattle.nl_mounts.specs.Ports.{AreLater, PortView, seeing}
 
 abbrev known_of : PortView → Known

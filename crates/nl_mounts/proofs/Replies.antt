@@ -25,7 +25,7 @@ use Rattle.nl_commit.specs.Layout.{DoesIn, Layout, cleaned}
 use Rattle.nl_commit.specs.Notes.{shared}
 use Rattle.nl_publish.specs.Locks.{Done, HeldPen, IsSoundState, NotBegun, Ran, as_replies, given_back}
 use Rattle.nl_publish.specs.Told.{LockedRunsLeadOn}
-use Rattle.nl_calls.specs.Replies.{IsReplyWith, reply_with}
+use Rattle.nl_types.specs.Replies.{IsReplyWith, reply_with}
 use Rattle.nl_mounts.specs.TypedCalls.{HasDone}
 use Rattle.nl_mounts.specs.Sharing.{HasRun}
 

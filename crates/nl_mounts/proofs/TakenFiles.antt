@@ -16,7 +16,7 @@ use Rattle.nl_tree.specs.Reading.{AreBytesFrom, HoldingMeans, as_file, link_at}
 use Rattle.nl_tree.specs.Facts.ReadingCalls.{are_bytes_from, read_file}
 use Rattle.nl_publish.specs.Histories.{Known}
 use Rattle.nl_publish.specs.Mounts.{Claim}
-use Rattle.nl_lanes.specs.Reading.{IsLater, Told}
+use Rattle.nl_publish.specs.Reading.{IsLater, Told}
 use Rattle.nl_mounts.specs.declared.looks.MountedTree.{MountedTree}
 use Rattle.nl_mounts.specs.OpenFiles.{HasTaken, IsFileRead, IsPartRefused, IsTakenOf, bytes_at}
 use Rattle.nl_mounts.specs.Ports.{IsNotRead, IsOfTree}

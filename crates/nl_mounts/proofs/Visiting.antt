@@ -5,7 +5,7 @@ use Rattle.nl_commit.specs.Shown.{Shown}
 use Rattle.nl_publish.specs.declared.reader_state.ReaderState.{ReaderState}
 use Rattle.nl_publish.specs.Histories.{Known}
 use Rattle.nl_publish.specs.States.{IsWhole}
-use Rattle.nl_lanes.specs.Reading.{IsLater}
+use Rattle.nl_publish.specs.Reading.{IsLater}
 use Rattle.nl_mounts.specs.Ports.{LookView}
 use Rattle.nl_mounts.specs.Visiting.{Entered, HasEntered, Visited}
 

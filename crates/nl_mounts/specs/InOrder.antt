@@ -8,7 +8,7 @@ use Rattle.nl_commit.specs.Layout.{MeansWorld}
 use Rattle.nl_publish.specs.Histories.{IsBegun, Known}
 use Rattle.nl_publish.specs.Mounts.{Claim, IsClaim}
 use Rattle.nl_publish.specs.Told.{TreeOn}
-use Rattle.nl_lanes.specs.Reading.{IsLater}
+use Rattle.nl_publish.specs.Reading.{IsLater}
 use Rattle.nl_mounts.specs.declared.shared.ToldReply.{ToldReply}
 use Rattle.nl_mounts.specs.Sharing.{HasTold}
 

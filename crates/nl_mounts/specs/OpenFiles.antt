@@ -14,7 +14,7 @@ use Rattle.nl_commit.specs.Commits.{shown_after}
 use Rattle.nl_publish.specs.Histories.{Known}
 use Rattle.nl_publish.specs.KeptHoldings.{HoldsOn}
 use Rattle.nl_publish.specs.Mounts.{Claim}
-use Rattle.nl_lanes.specs.Reading.{IsLater}
+use Rattle.nl_publish.specs.Reading.{IsLater}
 use Rattle.nl_mounts.specs.declared.files.PartsRead.{PartsRead}
 use Rattle.nl_mounts.specs.declared.looks.MountedTree.{MountedTree}
 use Rattle.nl_mounts.specs.declared.standing.Standing.{Standing}

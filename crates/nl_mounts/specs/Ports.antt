@@ -27,7 +27,7 @@ use Rattle.nl_publish.specs.declared.reader_state.ReaderState.{ReaderState}
 use Rattle.nl_publish.specs.Histories.{Known}
 use Rattle.nl_publish.specs.Mounts.{Claim}
 use Rattle.nl_publish.specs.Told.{TreeOn}
-use Rattle.nl_lanes.specs.Reading.{IsLater}
+use Rattle.nl_publish.specs.Reading.{IsLater}
 use Rattle.nl_mounts.specs.declared.cache.CacheKey.{CacheKey}
 use Rattle.nl_mounts.specs.declared.looks.MountedTree.{MountedTree}
 use Rattle.nl_mounts.specs.Caching.{Cache, HasCachedBlocks}

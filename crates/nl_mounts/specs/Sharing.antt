@@ -9,7 +9,7 @@ use Rattle.nl_types.specs.Plain.Worlds.{Reply, World}
 use Rattle.nl_commit.specs.Commits.{shown_after}
 use Rattle.nl_commit.specs.Layout.{Layout, MeansWorld, layout_of}
 use Rattle.nl_commit.specs.Volume.{without_mounts}
-use Rattle.nl_rounds.specs.Rounds.{RoundHabits}
+use Rattle.nl_commit.specs.Rounds.{RoundHabits}
 use Rattle.nl_publish.specs.Begun.{HasBegun}
 use Rattle.nl_publish.specs.Cleaning.{CleanRan}
 use Rattle.nl_publish.specs.Histories.{Known}

@@ -4,7 +4,7 @@ use Rattle.nl_types.specs.declared.error.VolError.{VolError}
 use Rattle.nl_types.specs.declared.error.VolError.TheVariants.{Memory}
 use Rattle.nl_types.specs.declared.event.Event.{Event}
 use Rattle.nl_types.specs.declared.reply.Answer.{Answer}
-use Rattle.nl_calls.specs.Replies.{reply_with}
+use Rattle.nl_types.specs.Replies.{reply_with}
 use Rattle.nl_mounts.specs.Sharing.{HasRun}
 
 -- the event ran in some sound state, and this is the answer to it, or its refusal

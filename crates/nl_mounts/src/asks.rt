@@ -1,7 +1,7 @@
 //! Questions of all kinds, which a port answers.
 ghost use Rattle.std.specs.Prelude.{◌≡◌, Err};
 ghost use Rattle.nl_commit.specs.Shown.{pages_shown};
-ghost use Rattle.nl_lanes.specs.Reading.{IsLater, Looked, Told};
+ghost use Rattle.nl_publish.specs.Reading.{IsLater, Looked, Told};
 ghost use Rattle.nl_mounts.specs.Ports.{IsOfTree, IsReplyOf, IsUngiven, seeing};
 
 use crate::enters::Enters;

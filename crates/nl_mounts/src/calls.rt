@@ -3,16 +3,14 @@ ghost use Rattle.nl_types.specs.declared.event.Change.TheVariants as change;
 ghost use Rattle.nl_types.specs.declared.event.Event.TheVariants.{Apply, ChangeMode, Checkpoint, Listing, Remove, RemoveRange, Resize};
 ghost use Rattle.nl_types.specs.declared.event.Mode.TheVariants.{Plain, Snapshot};
 ghost use Rattle.nl_types.specs.declared.reply.Answer.TheVariants as answer;
-ghost use Rattle.nl_calls.specs.Changes.{change_at};
+ghost use Rattle.nl_types.specs.Changes.{change_at};
 ghost use Rattle.nl_mounts.specs.TypedCalls.{HasAnswered, HasDone, UnlessMemory};
 
 use crate::shared::Shared;
-use nl_calls::{
-    PathCall, checkpoint_made, copies, range_removed, rows_listed, without_answer, written,
-};
 use nl_publish::{NotingPen, Press, Volumes, laws};
 use nl_types::{
-    Change, CheckpointNumber, Event, Items, ListOptions, Mode, Range, Reply, Row, VolError,
+    Change, CheckpointNumber, Event, Items, ListOptions, Mode, PathCall, Range, Reply, Row,
+    VolError, checkpoint_made, copies, range_removed, rows_listed, without_answer, written,
 };
 use std::alloc::Global;
 use std::sync::Wait;

@@ -4,7 +4,7 @@ ghost use Rattle.nl_types.specs.Plain.Trees.{Tree};
 ghost use Rattle.nl_commit.specs.Commits.{shown_after};
 ghost use Rattle.nl_commit.specs.Shown.{pages_shown};
 ghost use Rattle.nl_publish.specs.Told.{TreeOn};
-ghost use Rattle.nl_lanes.specs.Reading.{IsLater, Looked, Told};
+ghost use Rattle.nl_publish.specs.Reading.{IsLater, Looked, Told};
 ghost use Rattle.nl_mounts.specs.OpenFiles.{ArePartsRead, HasReadMore, HoldsAsTold, IsFileRead, IsOpenOf, IsPartRefused, IsReadUpTo, IsTakenOf};
 ghost use Rattle.nl_mounts.specs.Ports.{IsNotRead, IsOfTree, IsUngiven, seeing};
 

@@ -21,10 +21,12 @@ mod visits;
 pub use enters::Enters;
 pub use files::{FileAt, PartsRead};
 pub use many::read_many;
-pub use nl_config::{Amount, Config};
 pub use nl_cpfile::Cpstat;
-pub use nl_lanes::{Gate, JobAnswer, ReadJob};
-pub use nl_publish::{Gone, Mount, Opened, RefusedMount, SegmentView, Volumes, is_mount_event};
+pub use nl_protect::{Amount, Config};
+pub use nl_publish::{
+    Gate, Gone, JobAnswer, Mount, Opened, ReadJob, RefusedMount, SegmentView, Volumes,
+    is_mount_event,
+};
 pub use nl_sufile::Sustat;
 pub use nl_types::{
     Answer, Ask, Change, CheckpointNumber, Event, Geometry, Items, ListOptions, Mode, Moment,

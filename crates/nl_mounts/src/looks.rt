@@ -3,7 +3,7 @@ ghost use Rattle.std.specs.Prelude.{◌≡◌, IfSome, IfNone};
 ghost use Rattle.nl_publish.specs.Histories.{IsBegun};
 ghost use Rattle.nl_publish.specs.States.{IsWhole};
 ghost use Rattle.nl_publish.specs.Mounts.{IsClaim};
-ghost use Rattle.nl_lanes.specs.Reading.{IsLater};
+ghost use Rattle.nl_publish.specs.Reading.{IsLater};
 ghost use Rattle.nl_mounts.specs.Ports.{Finds, HasTreeIn, IsOlder, mounted_tree};
 
 use crate::enters::Enters;

@@ -1,13 +1,12 @@
 //! Ports as what reads many files of a mount at once.
 ghost use Rattle.std.specs.Prelude.{◌≡◌, ◌<◌, All, length, IfErr, IfOk, OnOk};
-ghost use Rattle.nl_lanes.specs.Jobs.{AreAnswers};
-ghost use Rattle.nl_lanes.specs.Reading.{HasLearned};
+ghost use Rattle.nl_publish.specs.Jobs.{AreAnswers};
+ghost use Rattle.nl_publish.specs.Reading.{HasLearned};
 ghost use Rattle.nl_mounts.specs.Ports.{AreLater};
 
 use crate::enters::Enters;
 use crate::port::Port;
-use nl_lanes::{FileReader, Gate, JobAnswer, PlaceKey, ReadJob};
-use nl_publish::{Mount, Volumes};
+use nl_publish::{FileReader, Gate, JobAnswer, Mount, PlaceKey, ReadJob, Volumes};
 use nl_types::{Items, VolError};
 use std::alloc::Global;
 use std::thread::Threads;
@@ -84,5 +83,5 @@ pub fn read_many<J: Volumes + Send + Sync, G: Gate + Sync, R: Threads + Sync>(
     ensures learned { OnOk result (All (λ p. HasLearned mount.now p.known) ports.new) }
     ensures refused { IfErr result (λ e. (e ≡ VolError.Memory) × (ports.new ≡ ports.old)) }
 {
-    nl_lanes::read_many(rt, alloc, ports, mount, jobs, gate)
+    nl_publish::read_many(rt, alloc, ports, mount, jobs, gate)
 }

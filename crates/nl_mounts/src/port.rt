@@ -6,7 +6,7 @@ ghost use Rattle.nl_commit.specs.Commits.{shown_after};
 ghost use Rattle.nl_commit.specs.Shown.{pages_shown};
 ghost use Rattle.nl_publish.specs.States.{name_of};
 ghost use Rattle.nl_mounts.specs.Caching.{AreCachedPages, IsCacheRefused, IsCacheSize};
-ghost use Rattle.nl_lanes.specs.Reading.{HasLearned, IsBytesOf, IsLater, Looked, Told};
+ghost use Rattle.nl_publish.specs.Reading.{HasLearned, IsBytesOf, IsLater, Looked, Told};
 ghost use Rattle.nl_mounts.specs.Ports.{Finds, IsCacheOf, IsListOf, IsNotRead, IsOfTree, IsReadOf, IsSeenOn, IsStatOf, IsUngiven, Learns, Misses, OfMountFile, OfTreeFile, PutsOfTree, TouchesIfAny, WarmsIfAny, fresh, joined, seeing, taken, vacant};
 ghost use Rattle.nl_mounts.specs.Visiting.{HasEntered};
 ghost use Rattle.nl_mounts.specs.Warming.{IsWarmingOf, Warms};

@@ -6,20 +6,20 @@ ghost use Rattle.nl_types.specs.Blocks.Segments.{clean_segments};
 ghost use Rattle.nl_cpfile.specs.Tables.{cpstat_of};
 ghost use Rattle.nl_commit.specs.CleanerViews.{needed_told};
 ghost use Rattle.nl_commit.specs.Layout.{ReadsCopy};
-ghost use Rattle.nl_lanes.specs.Reading.{HasLearned, IsLater};
+ghost use Rattle.nl_publish.specs.Reading.{HasLearned, IsLater};
 ghost use Rattle.nl_mounts.specs.Sharing.{HasCleaned, HasMounted, HasRun, HasTold, HasUnmounted, InSomeState, IsForeignReply, IsKnownTo, IsPenBack, IsPortCount, IsShareRefused, IsShared, MountComes, Tells, UnmountComes};
 ghost use Rattle.nl_mounts.specs.Ports.{Learns, fresh, seeing};
 ghost use Rattle.nl_publish.specs.Locks.{IsNoMountEvent, IsSoundState};
 ghost use Rattle.nl_publish.specs.SegmentViews.{segment_told};
 
 use crate::port::Port;
-use nl_config::Config;
+use nl_commit::Round;
 use nl_cpfile::Cpstat;
+use nl_protect::Config;
 use nl_publish::{
     Gone, Locked, Mount, NotingPen, Opened, Press, Publisher, RefusedMount, Seat, SegmentView,
     Volumes,
 };
-use nl_rounds::Round;
 use nl_sufile::Sustat;
 use nl_types::{Ask, CheckpointNumber, Event, Moment, Reply, Segment, SegmentInfo, VolError};
 use std::alloc::Global;

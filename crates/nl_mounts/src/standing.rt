@@ -1,6 +1,6 @@
 //! How a mount stands for a port.
 ghost use Rattle.std.specs.Prelude.{◌≡◌};
-ghost use Rattle.nl_lanes.specs.Reading.{IsLater};
+ghost use Rattle.nl_publish.specs.Reading.{IsLater};
 ghost use Rattle.nl_mounts.specs.Ports.{IsUngiven, seeing};
 ghost use Rattle.nl_mounts.specs.Standings.{StandsAs, standing_of};
 

@@ -1,6 +1,6 @@
 //! What a port tells without a mount: which checkpoints are kept, and what the tree of each answers.
 ghost use Rattle.std.specs.Prelude.{◌≡◌};
-ghost use Rattle.nl_lanes.specs.Reading.{IsLater};
+ghost use Rattle.nl_publish.specs.Reading.{IsLater};
 ghost use Rattle.nl_mounts.specs.Ports.{IsUngiven, seeing};
 ghost use Rattle.nl_mounts.specs.Visiting.{IsListingOf, IsReadOfKept, Visited};
 

@@ -1,1 +1,5 @@
 pub mod Names
+pub mod Kept
+pub mod Last
+pub mod Going
+pub mod Order

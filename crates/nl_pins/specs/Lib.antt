@@ -1,2 +1,4 @@
 pub mod Pins
 pub mod Trees
+pub mod Retention
+pub mod Counts

@@ -7,7 +7,7 @@ ghost use Rattle.nl_pins.specs.Pins.{has_row, is_among, is_before, is_other, kin
 
 use crate::pins::{Pins, is_of, number_of, pinned_at};
 use nl_manifests::{Line, LineKind};
-use nl_types::{CheckpointNumber, Items, Row};
+use nl_types::{CheckpointNumber, Items, Row, put_decimal};
 use std::alloc::{AllocError, Global};
 
 // ---- lines of others
@@ -86,9 +86,9 @@ fn kind_with(alloc: Global, text: &[u8]) -> Result<LineKind, AllocError>
 fn digits(alloc: Global, number: u64) -> Result<Items<u8>, AllocError>
     ensures { IfOk result (λ digits. digits ≡ decimal number) }
 {
-    let text = format!(in alloc; "{number}")?;
-    let digits = Items::from_slice(alloc, text.as_bytes())?;
-    Ok(digits)
+    let mut digits = Vec::new(alloc);
+    put_decimal(alloc, &mut digits, number)?;
+    Ok(Items::from_vec(digits))
 }
 
 /// The line of a checkpoint.

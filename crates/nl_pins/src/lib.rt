@@ -1,10 +1,15 @@
-//! Pins of checkpoints, which stay whatever rules of retention say, in a file of the root of a tree; and trees with
-//! that file and without it.
+//! Retention: which checkpoints go by rules; and pins of checkpoints, which stay whatever the rules say, in a
+//! file of the root of a tree, with trees that have that file and trees without it.
 #![tactic(auto)]
 
 mod changing;
+mod counts;
+mod expiring;
 mod pins;
+mod rules;
 mod trees;
 
+pub use expiring::{descends, expired};
 pub use pins::Pins;
+pub use rules::{Dated, Periods, Rules};
 pub use trees::{is_of_pins, path_of_pins, with_pins, without_pins};

@@ -1,1 +1,3 @@
 pub mod Keeping
+pub mod Configuration
+pub mod Laws

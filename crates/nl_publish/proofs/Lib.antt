@@ -9,3 +9,4 @@ pub mod Copies
 pub mod Following
 pub mod FreedBlocks
 pub mod ToldSegments
+pub mod Lanes

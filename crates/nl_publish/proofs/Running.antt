@@ -7,7 +7,7 @@ use Rattle.nl_types.specs.declared.reply.Answer.{Answer}
 use Rattle.nl_types.specs.declared.reply.Answer.TheVariants as answer
 use Rattle.nl_types.specs.Plain.Runs.{Run}
 use Rattle.nl_types.specs.Plain.Worlds.{Reply}
-use Rattle.nl_calls.specs.Replies.{IsReplyWith}
+use Rattle.nl_types.specs.Replies.{IsReplyWith}
 use Rattle.nl_commit.specs.Layout.{Does, IsPen}
 use Rattle.nl_commit.specs.Notes.{shared}
 use Rattle.nl_commit.specs.declared.commit.Commit.{Commit}

@@ -3,7 +3,7 @@ use Rattle.std.specs.Prelude.{◌≡◌, Option, None, Some, Err}
 use Rattle.nl_types.specs.declared.error.VolError.TheVariants.{Memory}
 use Rattle.nl_types.specs.declared.event.Event.{Event}
 use Rattle.nl_types.specs.Plain.Worlds.{Reply}
-use Rattle.nl_rounds.specs.Rounds.{RoundHabits}
+use Rattle.nl_commit.specs.Rounds.{RoundHabits}
 use Rattle.nl_publish.specs.Locks.{GoesBy, HeldPen, IsReady, IsStuck, IsTried}
 
 -- Behind the give-back of a lost mount the next event of the round runs, and its reply is noted; or nothing

@@ -15,3 +15,6 @@ pub mod Cached
 pub mod KeptHoldings
 pub mod ReadPages
 pub mod Facts
+pub mod Reading
+pub mod Jobs
+pub mod FactsOfLanes

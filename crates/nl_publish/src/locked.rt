@@ -19,9 +19,10 @@ use crate::mount::{Gone, Mount, RefusedMount};
 use crate::press::{Press, Publisher};
 use crate::protocol::Volumes;
 use crate::reader_state::Entry;
-use nl_calls::{mount_made, without_answer};
 use nl_commit::{Commit, NotingPen};
-use nl_types::{Answer, Ask, CheckpointNumber, Event, MountNumber, Reply, VolError};
+use nl_types::{
+    Answer, Ask, CheckpointNumber, Event, MountNumber, Reply, VolError, mount_made, without_answer,
+};
 use std::alloc::Global;
 use std::marker::Model;
 use std::sync::Wait;

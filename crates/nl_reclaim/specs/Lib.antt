@@ -4,3 +4,8 @@ pub mod Reclaims
 pub mod Rounds
 pub mod Facts
 pub mod Private
+pub mod EndLists
+pub mod Counted
+pub mod Events
+pub mod Laws
+pub mod PrivateCounts

@@ -16,14 +16,13 @@
 //! **Who asks.** Whoever has to know takes a [`Keeping`], and sees no checkpoint:
 //!
 //! - [`is_number_needed`], for one number of a store.
-//! - `count_needed`, `first_needed` and `list_needed` of this crate, for a segment, block by block: a count
-//!   made anew, and what a move takes.
-//! - `NeededCounts` of `nl_counts`: for all numbers as a volume is opened, and for those that end where
-//!   checkpoints go.
+//! - `count_needed`, `first_needed` and `list_needed`, for a segment, block by block: a count made anew, and
+//!   what a move takes.
+//! - `NeededCounts`: for all numbers as a volume is opened, and for those that end where checkpoints go.
 //!
 //! **Where needed blocks are counted.** `NeededCounts` keeps, beside a volume, how many needed numbers have
 //! their pages in each segment: `needed_counts` (`nl_vstore/specs/Counts.antt`), by `IsCounted`
-//! (`nl_counts/specs/Counted.antt`). `Parts::needed` of `nl_events` looks a count up, and `Pen`, `Locked` and
+//! (`nl_reclaim/specs/Counted.antt`). `Parts::needed` of `nl_events` looks a count up, and `Pen`, `Locked` and
 //! `Shared` hand it on; a retirement is told it, so it asks no `Keeping`. `Parts::counts_after` reckons from
 //! it the counts that a round is planned by.
 ghost use Rattle.std.specs.Prelude.{◌≡◌, ℕ, List};

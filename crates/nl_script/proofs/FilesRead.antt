@@ -8,7 +8,7 @@ use Rattle.nl_types.specs.Plain.Calls.{IsUnlessMemory, ShowsUnlessMemory}
 use Rattle.nl_types.specs.Plain.Runs.{Run}
 use Rattle.nl_types.specs.Plain.Worlds.{Reply}
 use Rattle.nl_publish.specs.Mounts.{Claim}
-use Rattle.nl_lanes.specs.Jobs.{AreAnswers, JobAnswer}
+use Rattle.nl_publish.specs.Jobs.{AreAnswers, JobAnswer}
 use Rattle.nl_commands.specs.declared.command.Shown.TheVariants.{Content}
 use Rattle.nl_script.specs.Events.{asked, reading}
 use Rattle.nl_script.specs.FileReads.{AnswersReads, AreFirstFiles, IsPortReply, IsToldThrough, is_bad_mount, job_of, reply_of}

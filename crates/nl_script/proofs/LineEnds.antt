@@ -10,7 +10,7 @@ use Rattle.nl_commit.specs.Layout.{Layout}
 use Rattle.nl_texts.specs.Facts.Appending.{OnOk-same}
 use Rattle.nl_texts.specs.Texts.{Text}
 use Rattle.nl_script.specs.ExitStatus.{status_of}
-use Rattle.nl_config.specs.declared.config.Config.{Config}
+use Rattle.nl_protect.specs.declared.config.Config.{Config}
 use Rattle.nl_script.specs.Habits.{Habits}
 use Rattle.nl_script.specs.Lines.{AreEventsDone, AreOutcomesTold, AreFilesTold, ComesTo, IsCommandDone, LacksMemory, LineEnd, line_end, listed, refused}
 use Rattle.nl_script.specs.OutcomeTexts.{text_of}

@@ -1,7 +1,7 @@
 -- One line more of a script.
 use Rattle.std.proofs.Common.{◌≡◌, ◌∙◌, ◌+◌, ◌<◌, ◌++◌, ap, sym, refl, subst, List, ◌∷◌, [], ℕ, length, arith}
 use Rattle.std.specs.Io.BufRead.{first_piece, drop_through}
-use Rattle.nl_config.specs.declared.config.Config.{Config}
+use Rattle.nl_protect.specs.declared.config.Config.{Config}
 use Rattle.nl_script.specs.Habits.{Habits}
 use Rattle.nl_script.specs.Lines.{IsLineAnswered, LineEnd}
 use Rattle.nl_script.specs.Scripts.{AreLinesDone, BeginsWithLines, last_moment, number_behind}

@@ -10,7 +10,7 @@ use Rattle.std.specs.Prelude.{◌||◌, ◌-◌, ◌^◌}
 use Rattle.nl_texts.specs.Texts.{Text}
 use Rattle.nl_texts.specs.declared.streams.StandardStream.{StandardStream}
 use Rattle.nl_texts.specs.declared.streams.StandardStream.TheVariants as stream
-use Rattle.nl_config.specs.declared.config.Config.{Config}
+use Rattle.nl_protect.specs.declared.config.Config.{Config}
 use Rattle.nl_script.specs.Habits.{Habits}
 use Rattle.nl_script.specs.Lines.{IsLineAnswered, LineEnd}
 use Rattle.nl_script.specs.Scripts.{AreLinesDone, AreWritten, BeginsSo, BeginsWithLines, IsRunSoFar, IsScriptDone, ends_misread, ends_refused, last_moment, number_behind, text_of_line, texts_of}

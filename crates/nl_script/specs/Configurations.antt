@@ -2,8 +2,8 @@
 use Rattle.std.specs.Prelude.{◌≡◌, ◌≢◌, ◌⊎◌, List, ℕ, Option, None, Some, Result, Ok, Err, IfSome}
 use Rattle.nl_types.specs.declared.error.VolError.{VolError}
 use Rattle.nl_types.specs.declared.error.VolError.TheVariants.{Memory}
-use Rattle.nl_config.specs.Configuration.{configuration_in, standard}
-use Rattle.nl_config.specs.declared.config.Config.{Config}
+use Rattle.nl_protect.specs.Configuration.{configuration_in, standard}
+use Rattle.nl_protect.specs.declared.config.Config.{Config}
 use Rattle.nl_saving.specs.Files.{IsUnread}
 use Rattle.nl_saving.specs.declared.files.FileFault.{FileFault}
 use Rattle.nl_saving.specs.declared.files.FileFault.TheVariants.{Refused}

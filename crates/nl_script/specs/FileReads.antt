@@ -13,8 +13,8 @@ use Rattle.nl_commands.specs.declared.command.Shown.TheVariants.{Content}
 use Rattle.nl_commit.specs.Commits.{shown_after}
 use Rattle.nl_publish.specs.Mounts.{Claim}
 use Rattle.nl_publish.specs.Told.{TreeOn}
-use Rattle.nl_lanes.specs.Jobs.{JobAnswer}
-use Rattle.nl_lanes.specs.declared.many.ReadJob.{ReadJob}
+use Rattle.nl_publish.specs.Jobs.{JobAnswer}
+use Rattle.nl_publish.specs.declared.many.ReadJob.{ReadJob}
 use Rattle.nl_script.specs.Events.{asked}
 
 -- what each tree says that the mount's checkpoint had when it was mounted, unless memory is refused

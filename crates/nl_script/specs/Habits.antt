@@ -2,7 +2,7 @@
 use Rattle.nl_types.specs.Plain.Worlds.{Reply}
 use Rattle.nl_types.specs.declared.event.Event.{Event}
 use Rattle.nl_commit.specs.Layout.{Layout}
-use Rattle.nl_rounds.specs.Rounds.{RoundHabits}
+use Rattle.nl_commit.specs.Rounds.{RoundHabits}
 use Rattle.nl_script.specs.Rounds.{Steps}
 
 -- what a volume of states S does and shows, whose rounds of cleaning are values of J

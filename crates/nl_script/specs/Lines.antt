@@ -24,7 +24,7 @@ use Rattle.nl_texts.specs.Texts.{Text}
 use Rattle.nl_texts.specs.declared.segments.SegmentRow.{SegmentRow}
 use Rattle.nl_script.specs.Events.{events_of, reading}
 use Rattle.nl_script.specs.FileReads.{is_bad_mount}
-use Rattle.nl_config.specs.declared.config.Config.{Config}
+use Rattle.nl_protect.specs.declared.config.Config.{Config}
 use Rattle.nl_script.specs.Habits.{Habits}
 use Rattle.nl_script.specs.ExitStatus.{status_if_refused, status_of}
 use Rattle.nl_script.specs.OutcomeTexts.{text_of}

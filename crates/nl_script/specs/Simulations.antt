@@ -2,7 +2,7 @@
 use Rattle.std.specs.Prelude.{◌≡◌, ℕ, List, Option}
 use Rattle.nl_types.specs.Plain.Worlds.{Reply}
 use Rattle.nl_types.specs.declared.event.Event.{Event}
-use Rattle.nl_config.specs.declared.config.Config.{Config}
+use Rattle.nl_protect.specs.declared.config.Config.{Config}
 use Rattle.nl_commit.specs.Layout.{Layout}
 use Rattle.nl_script.specs.Habits.{Habits}
 use Rattle.nl_script.specs.Lines.{LineEnd}

@@ -1,9 +1,9 @@
 //! The configuration of a session: the standard one, or what a file holds.
 ghost use Rattle.std.specs.Prelude.{◌≡◌, ◌≢◌, Err, None, option_map};
-ghost use Rattle.nl_config.specs.Configuration.{configuration_in};
+ghost use Rattle.nl_protect.specs.Configuration.{configuration_in};
 ghost use Rattle.nl_script.specs.Configurations.{IsConfigured, IsReadFrom, configured};
 
-use nl_config::Config;
+use nl_protect::Config;
 use nl_saving::{FileFault, open_file, read_all};
 use nl_types::VolError;
 use std::alloc::Global;

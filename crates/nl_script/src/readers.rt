@@ -6,8 +6,7 @@ ghost use Rattle.nl_types.specs.Plain.Worlds.{Reply};
 ghost use Rattle.nl_types.specs.declared.reply.Answer.TheVariants as answered;
 ghost use Rattle.nl_script.specs.FileReads.{AreFirstFiles, is_bad_mount, job_of, reply_of};
 
-use nl_lanes::{FileReader, Gate, JobAnswer, ReadJob, read_many};
-use nl_publish::{Mount, Volumes};
+use nl_publish::{FileReader, Gate, JobAnswer, Mount, ReadJob, Volumes, read_many};
 use nl_types::limits::FILE_LIMIT;
 use nl_types::{Answer, Items, Reply, VolError};
 use std::alloc::{AllocError, Global};

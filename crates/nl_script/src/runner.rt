@@ -1,6 +1,6 @@
 //! What runs the lines of a script.
 use crate::readers::Readers;
-use nl_config::Config;
+use nl_protect::Config;
 use std::alloc::Global;
 
 /// What the lines of a script are run by, one after another.

@@ -10,7 +10,7 @@ use crate::reading::{Next, next_line};
 use crate::runner::Runner;
 use crate::status::{LineResult, Status};
 use crate::volume::Volume;
-use nl_lanes::FileReader;
+use nl_publish::FileReader;
 use nl_texts::{self as texts, Done, StandardStream};
 use nl_types::VolError;
 use std::io;

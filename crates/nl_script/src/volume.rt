@@ -1,13 +1,12 @@
 //! What scripts know of a volume.
 ghost use Rattle.std.specs.Prelude.{◌≡◌, ◌<◌, ℕ, IfSome, OnSome};
-ghost use Rattle.nl_config.specs.declared.config.Config.{Config};
+ghost use Rattle.nl_protect.specs.declared.config.Config.{Config};
 ghost use Rattle.nl_commit.specs.Layout.{Layout};
 ghost use Rattle.nl_script.specs.FileReads.{AnswersReads};
 ghost use Rattle.nl_script.specs.Habits.{Habits};
 
-use nl_commit::NotingPen;
+use nl_commit::{NotingPen, Round};
 use nl_publish::{Mount, Volumes};
-use nl_rounds::Round;
 use nl_types::{Event, MountNumber, Reply};
 
 /// What a script runs on.

@@ -10,9 +10,9 @@ use Rattle.nl_types.specs.Facts.UsedParts.{are_unused, payload_used}
 use Rattle.nl_types.specs.Blocks.PartialMaps.{Stands}
 use Rattle.nl_device.specs.Pages.{DevicePages}
 use Rattle.nl_segwriter.specs.declared.staging.Staged.{Staged}
-use Rattle.nl_space.specs.Content.{SpaceContent, HeldPayload, Payload, payload_page}
-use Rattle.nl_space.specs.Logs.{WholeLog, StandsFrom}
-use Rattle.nl_space.specs.Appended.{StandInLogs, KeepsOtherBlocks, IsAppended, IsBrokenOff}
+use Rattle.nl_vstore.specs.Content.{SpaceContent, HeldPayload, Payload, payload_page}
+use Rattle.nl_vstore.specs.Logs.{WholeLog, StandsFrom}
+use Rattle.nl_vstore.specs.Appended.{StandInLogs, KeepsOtherBlocks, IsAppended, IsBrokenOff}
 use Rattle.nl_segwriter.specs.Private.Staging.{IsReady, AreStaged, AreSized, logs_of, whole_of}
 use Rattle.nl_segwriter.specs.Writing.{LogsStand, BreaksOff}
 use Rattle.nl_segwriter.proofs.Rows.{stand_row, stand-append}

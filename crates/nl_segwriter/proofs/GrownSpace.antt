@@ -8,9 +8,9 @@ use Rattle.nl_types.specs.Blocks.Segments.{AreTidy, HaveLogs, Segments, grown_to
 use Rattle.nl_types.specs.Blocks.GrowingLaws.{InfosStay, UsedStays}
 use Rattle.nl_types.specs.Facts.UsedParts.{used_inside}
 use Rattle.nl_device.specs.Pages.{DevicePages, KeepsBelow}
-use Rattle.nl_space.specs.Content.{HeldPayload, HoldsOnlyUsed, KeepsUsed, Payload, SpaceContent}
-use Rattle.nl_space.specs.Logs.{AreWholeLogs}
-use Rattle.nl_space.specs.Facts.KeptLogs.{filled_same}
+use Rattle.nl_vstore.specs.Content.{HeldPayload, HoldsOnlyUsed, KeepsUsed, Payload, SpaceContent}
+use Rattle.nl_vstore.specs.Logs.{AreWholeLogs}
+use Rattle.nl_vstore.specs.FactsOfSpace.KeptLogs.{filled_same}
 use Rattle.nl_segwriter.specs.Writing.{held_in}
 use Rattle.nl_segwriter.specs.Facts.WholeLogs.{none_held}
 

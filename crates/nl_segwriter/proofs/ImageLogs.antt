@@ -8,9 +8,9 @@ use Rattle.nl_device.specs.Pages.{DevicePages}
 use Rattle.nl_layout.specs.declared.tag.Tag.{Tag}
 use Rattle.nl_layout.specs.Summary.{Contents, SummaryHasSpelling, summary_bytes}
 use Rattle.nl_types.specs.Blocks.Segments.{Segments}
-use Rattle.nl_space.specs.Content.{HeldPayload, Payload, SpaceContent, StandInRow, payload_page, payload_tag}
-use Rattle.nl_space.specs.Logs.{FillDevice, FillUpTo, IsOnDevice, WholeLog, contents_of}
-use Rattle.nl_space.specs.Facts.KeptLogs.{fill_kept}
+use Rattle.nl_vstore.specs.Content.{HeldPayload, Payload, SpaceContent, StandInRow, payload_page, payload_tag}
+use Rattle.nl_vstore.specs.Logs.{FillDevice, FillUpTo, IsOnDevice, WholeLog, contents_of}
+use Rattle.nl_vstore.specs.FactsOfSpace.KeptLogs.{fill_kept}
 use Rattle.nl_segwriter.specs.Images.{IsFreeBetween, IsLogHeld, IsRowHeld, SameAround}
 use Rattle.nl_segwriter.specs.Writing.{held_in}
 use Rattle.nl_segwriter.specs.Facts.WholeLogs.{fill_push}

@@ -8,9 +8,9 @@ use Rattle.nl_types.specs.declared.segment.SegmentInfo.{SegmentInfo}
 use Rattle.nl_types.specs.Blocks.Segments.{Segments, AreTidy, IsUsed, clean_info, info_of, total_blocks}
 use Rattle.nl_types.specs.Facts.SegmentChanges.{room_of}
 use Rattle.nl_device.specs.Pages.{DevicePages}
-use Rattle.nl_space.specs.Content.{HeldPayload, Payload, SpaceContent}
-use Rattle.nl_space.specs.Logs.{AreWholeLogs, IsFilledBy, WholeLog}
-use Rattle.nl_space.specs.Facts.KeptLogs.{fill_kept}
+use Rattle.nl_vstore.specs.Content.{HeldPayload, Payload, SpaceContent}
+use Rattle.nl_vstore.specs.Logs.{AreWholeLogs, IsFilledBy, WholeLog}
+use Rattle.nl_vstore.specs.FactsOfSpace.KeptLogs.{fill_kept}
 use Rattle.nl_segwriter.specs.Images.{HoldLogs, IsHeld, SameAround, used_end, used_start, page_in}
 use Rattle.nl_segwriter.specs.Writing.{held_in, space_content}
 use Rattle.nl_segwriter.specs.Facts.WholeLogs.{fill_has, none_held}

@@ -3,9 +3,9 @@ use Rattle.std.proofs.Common.{◌≡◌, ℕ, ◌+◌, ◌-◌, ◌<◌, ◌≤�
 use Rattle.std.proofs.lemmas.List.{length-map}
 use Rattle.nl_types.specs.Blocks.Segments.{Segments}
 use Rattle.nl_device.specs.Pages.{DevicePages}
-use Rattle.nl_space.specs.Content.{Payload, payload_page}
-use Rattle.nl_space.specs.Logs.{FillDevice, IsOnDevice, WholeLog}
-use Rattle.nl_space.specs.Facts.KeptLogs.{fill_kept}
+use Rattle.nl_vstore.specs.Content.{Payload, payload_page}
+use Rattle.nl_vstore.specs.Logs.{FillDevice, IsOnDevice, WholeLog}
+use Rattle.nl_vstore.specs.FactsOfSpace.KeptLogs.{fill_kept}
 use Rattle.nl_segwriter.specs.Images.{AreLogsIn, AreUsedPages, HoldLogs, IsHeld, used_end, used_start, page_in}
 use Rattle.nl_segwriter.specs.Writing.{held_in, space_content}
 use Rattle.nl_segwriter.proofs.ImageLogs.{fill_device_up}

@@ -9,8 +9,8 @@ use Rattle.nl_types.specs.Facts.UsedParts.{outside_row}
 use Rattle.nl_device.specs.Pages.{DevicePages}
 use Rattle.nl_layout.specs.Summary.{summary_bytes}
 use Rattle.nl_segwriter.specs.declared.staging.Staged.{Staged}
-use Rattle.nl_space.specs.Content.{SpaceContent, HeldPayload, payload_page, SameOutside, StandInRow, HoldsOnlyUsed}
-use Rattle.nl_space.specs.Logs.{StandsFrom, contents_of}
+use Rattle.nl_vstore.specs.Content.{SpaceContent, HeldPayload, payload_page, SameOutside, StandInRow, HoldsOnlyUsed}
+use Rattle.nl_vstore.specs.Logs.{StandsFrom, contents_of}
 use Rattle.nl_segwriter.specs.Private.Staging.{IsReady, whole_of}
 use Rattle.nl_segwriter.specs.Writing.{HasPut, HasTried}
 

@@ -4,13 +4,13 @@ use Rattle.nl_types.specs.declared.segment.Log.{Log}
 use Rattle.nl_types.specs.Blocks.Segments.{Segments, IsUsed, StaysUsed, AreTidy, with_error}
 use Rattle.nl_types.specs.Blocks.Placing.{first_block, IsNextLog, with_log, with_logs}
 use Rattle.nl_types.specs.Facts.UsedParts.{outside_row, used_row}
-use Rattle.nl_space.specs.Content.{SpaceContent, KeepsUsed, IsSameAt}
-use Rattle.nl_space.specs.Logs.{WholeLog, StandsFrom}
-use Rattle.nl_space.specs.Appended.{IsOutside, KeepsOtherBlocks}
+use Rattle.nl_vstore.specs.Content.{SpaceContent, KeepsUsed, IsSameAt}
+use Rattle.nl_vstore.specs.Logs.{WholeLog, StandsFrom}
+use Rattle.nl_vstore.specs.Appended.{IsOutside, KeepsOtherBlocks}
 use Rattle.nl_segwriter.specs.declared.staging.Staged.{Staged}
 use Rattle.nl_segwriter.specs.Private.Staging.{logs_of, whole_of}
 use Rattle.nl_segwriter.specs.Writing.{SameOutsideLog, LogsStand, BreaksOff}
-use Rattle.nl_space.specs.Facts.KeptLogs.{stands_kept}
+use Rattle.nl_vstore.specs.FactsOfSpace.KeptLogs.{stands_kept}
 
 pub same_outside : (blocks : ℕ) (log : Log) (old new : SpaceContent) (b : ℕ)
     → SameOutsideLog blocks log old new → IsOutside blocks b log → IsSameAt old new b

@@ -5,7 +5,7 @@ use Rattle.std.proofs.lemmas.Bool.{cases_eq}
 use Rattle.std.specs.Prelude.{slice_get}
 use Rattle.nl_types.specs.Blocks.Placing.{blocks_from}
 use Rattle.nl_types.specs.Blocks.PartialMaps.{Stands}
-use Rattle.nl_space.specs.Content.{SameOutside, StandInRow}
+use Rattle.nl_vstore.specs.Content.{SameOutside, StandInRow}
 
 module _ {V : Type 0} where
   -- a put at the next number leaves what is outside one more number as it was

@@ -4,8 +4,8 @@ use Rattle.nl_types.specs.declared.geometry.Geometry.{Geometry}
 use Rattle.nl_types.specs.Blocks.Segments.{Segments, IsUsed, info_of, total_blocks}
 use Rattle.nl_device.specs.Pages.{DevicePages}
 use Rattle.nl_layout.specs.declared.tag.Tag.{Tag}
-use Rattle.nl_space.specs.Content.{HeldPayload, Payload, SpaceContent, StandInRow, payload_page, payload_tag}
-use Rattle.nl_space.specs.Logs.{FillDevice, FillUpTo, StandsFrom, WholeLog}
+use Rattle.nl_vstore.specs.Content.{HeldPayload, Payload, SpaceContent, StandInRow, payload_page, payload_tag}
+use Rattle.nl_vstore.specs.Logs.{FillDevice, FillUpTo, StandsFrom, WholeLog}
 use Rattle.nl_segwriter.specs.declared.images.Restored.{Restored}
 use Rattle.nl_segwriter.specs.Writing.{held_in}
 

@@ -9,9 +9,9 @@ use Rattle.nl_device.specs.declared.device.DeviceError.{DeviceError}
 use Rattle.nl_device.specs.declared.device.DeviceError.TheVariants as device
 use Rattle.nl_device.specs.Pages.{DevicePages}
 use Rattle.nl_segwriter.specs.declared.staging.Staged.{Staged}
-use Rattle.nl_space.specs.Content.{Payload, HeldPayload, SpaceContent, SameOutside, StandInRow}
-use Rattle.nl_space.specs.Logs.{StandsFrom}
-use Rattle.nl_space.specs.Appended.{KeepsOtherBlocks}
+use Rattle.nl_vstore.specs.Content.{Payload, HeldPayload, SpaceContent, SameOutside, StandInRow}
+use Rattle.nl_vstore.specs.Logs.{StandsFrom}
+use Rattle.nl_vstore.specs.Appended.{KeepsOtherBlocks}
 use Rattle.nl_segwriter.specs.Private.Staging.{logs_of, whole_of}
 
 -- what a table of blocks has at a number

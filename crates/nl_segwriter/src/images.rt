@@ -3,17 +3,17 @@ ghost use Rattle.std.specs.Prelude.{◌≡◌, ◌⊎◌, ◌+◌, ◌*◌, ◌<
 ghost use Rattle.nl_types.specs.Plain.Limits as limits;
 ghost use Rattle.nl_types.specs.Blocks.Segments.{IsUsed, total_blocks};
 ghost use Rattle.nl_layout.specs.Summary.{Contents, SummaryHasSpelling, summary_bytes};
-ghost use Rattle.nl_space.specs.Images.{pages_of_bytes};
-ghost use Rattle.nl_space.specs.Logs.{FillDevice, FillUpTo, IsOnDevice, WholeLog};
+ghost use Rattle.nl_vstore.specs.Images.{pages_of_bytes};
+ghost use Rattle.nl_vstore.specs.Logs.{FillDevice, FillUpTo, IsOnDevice, WholeLog};
 ghost use Rattle.nl_segwriter.specs.Images.{AreLogsIn, AreUsedPages, HoldLogs, IsFreeBetween, IsLogHeld, IsRowHeld, SameAround, page_in};
 ghost use Rattle.nl_segwriter.specs.Writing.{held_in};
 
 use crate::log_space::used_of;
 use crate::payload::no_payload;
 use nl_layout::{Summary, Tag};
-use nl_space::Payload;
 use nl_sufile::SegTable;
 use nl_types::{BLOCK_SIZE, Block, BlockNumber, Items, Page, Segment, VolError};
+use nl_vstore::Payload;
 use std::alloc::{AllocError, Global};
 
 /// What refuses an image for its logs.

@@ -6,9 +6,9 @@ ghost use Rattle.nl_types.specs.Blocks.Placing.{IsNextLog, AreNextLogs, first_bl
 ghost use Rattle.std.proofs.Props.{props};
 ghost use Rattle.nl_device.specs.Failures.{CountsWrites, FailsToWrite};
 ghost use Rattle.nl_sufile.specs.Table.{IsSegTable};
-ghost use Rattle.nl_space.specs.Content.{HoldsOnlyUsed, KeepsUsed, new_content};
-ghost use Rattle.nl_space.specs.Logs.{AreWholeLogs, StandsFrom};
-ghost use Rattle.nl_space.specs.Appended.{KeepsOtherBlocks};
+ghost use Rattle.nl_vstore.specs.Content.{HoldsOnlyUsed, KeepsUsed, new_content};
+ghost use Rattle.nl_vstore.specs.Logs.{AreWholeLogs, StandsFrom};
+ghost use Rattle.nl_vstore.specs.Appended.{KeepsOtherBlocks};
 ghost use Rattle.nl_segwriter.specs.Images.{HoldLogs, IsTableShapeOf, IsSpaceOf, page_in};
 ghost use Rattle.nl_segwriter.specs.Private.Staging.{IsReady, logs_of, whole_of};
 ghost use Rattle.nl_segwriter.specs.Writing.{held_in, space_content, SameOutsideLog, MayBeTaken, StagedStands, LogsStand, BreaksOff, refusal_of};
@@ -19,11 +19,11 @@ use crate::payload::{add_blocks, drop_row, hold_row, no_payload};
 use crate::put::{put_pages, put_row};
 use crate::staging::{Staged, stage};
 use nl_device::{Device, DeviceError, Fault};
-use nl_space::{Payload, Space};
 use nl_sufile::SegTable;
 use nl_types::{
     BlockNumber, CheckpointNumber, Geometry, Items, Page, Position, Segment, VolError, laws,
 };
+use nl_vstore::{Payload, Space};
 use std::alloc::Global;
 
 /// Logs on a device, and their payload in memory.

@@ -1,10 +1,10 @@
 //! Payload in memory, by block number.
 ghost use Rattle.std.specs.Prelude.{◌≡◌, ◌+◌, ◌-◌, ◌++◌, ◌≤◌, length, vec_len, replicate, IfOk, None, OnErr, OnOk};
-ghost use Rattle.nl_space.specs.Content.{StandInRow, SameOutside, IsEmptied};
+ghost use Rattle.nl_vstore.specs.Content.{StandInRow, SameOutside, IsEmptied};
 ghost use Rattle.nl_segwriter.specs.Writing.{held_in};
 
-use nl_space::Payload;
 use nl_types::{Items, add_places, empty_places};
+use nl_vstore::Payload;
 use std::alloc::{AllocError, Global};
 
 /// A table of so many blocks without payload.

@@ -3,11 +3,11 @@ ghost use Rattle.std.specs.Prelude.{◌≡◌, ◌≤◌, ◌∷◌, length, map
 ghost use Rattle.nl_types.specs.Plain.Limits as limits;
 ghost use Rattle.nl_types.specs.Blocks.Placing.{payload_count};
 ghost use Rattle.nl_layout.specs.Summary.{Spells, SummaryHasSpelling, summary_bytes};
-ghost use Rattle.nl_space.specs.Content.{payload_tag, payload_page};
+ghost use Rattle.nl_vstore.specs.Content.{payload_tag, payload_page};
 
 use nl_layout::{Summary, Tag};
-use nl_space::Payload;
 use nl_types::{BLOCK_SIZE, Block, CheckpointNumber, Items, Log, Page};
+use nl_vstore::Payload;
 use std::alloc::{AllocError, Global};
 
 /// A log with what it needs to be written.

@@ -1,20 +1,12 @@
 //! The text of a sum.
 ghost use Rattle.std.specs.Prelude.{◌≡◌, ◌++◌, OnOk, IfOk};
-ghost use Rattle.std.specs.Fmt.{decimal};
 ghost use Rattle.std.specs.List.{flat_map};
 ghost use Rattle.nl_sums.specs.Texts.{digest_text, number_text, save_text, segment_text, sum_text};
 
 use crate::digests::Digest;
 use crate::sum::{Save, Sum};
-use nl_types::Items;
+use nl_types::{Items, put_decimal};
 use std::alloc::{AllocError, Global};
-
-fn put_decimal(alloc: Global, out: &mut Vec<u8>, number: u64) -> Result<(), AllocError>
-    ensures { OnOk result (out.new.items ≡ out.old.items ++ decimal number) }
-{
-    let digits = format!(in alloc; "{number}")?;
-    out.extend_from_slice(digits.as_bytes())
-}
 
 /// Puts a line of a number at the end.
 #[tactic(auto, unfolding(crate::specs::Texts::number_text))]

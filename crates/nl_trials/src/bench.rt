@@ -6,9 +6,9 @@ ghost use Rattle.std.specs.Prelude.{◌≡◌};
 use crate::bench::checkpoints::{Call, make_checkpoints};
 use crate::bench::mounts::read_pen;
 use crate::bench::ports::{Case, Task, measure};
-use crate::words::{number, size};
+use crate::words::size;
 use nl_publish::{Opened, Volumes};
-use nl_types::VolError;
+use nl_types::{VolError, decimal};
 use std::alloc::Global;
 use std::marker::Brand;
 use std::sync::Wait;
@@ -30,7 +30,7 @@ enum Asked {
 }
 
 fn asked_of_pen(word: &str, count: &str) -> Option<Asked> {
-    let count = number(count)?;
+    let count = decimal(count)?;
     match word {
         "apply" => Some(Asked::Checkpoints(Call::Apply, count)),
         "apply_noting" => Some(Asked::Checkpoints(Call::ApplyNoting, count)),
@@ -60,7 +60,7 @@ fn asked_of_ports(word: &str, ports: &str, bytes: &str, count: &str) -> Option<A
         case: case_of(word)?,
         ports: size(ports)?,
         bytes: size(bytes)?,
-        count: number(count)?,
+        count: decimal(count)?,
     }))
 }
 

@@ -63,7 +63,7 @@ fn do_rows<R: Wait>(rt: &HostRuntime, handles: &R) -> io::Result<()> {
 }
 
 /// The status where memory was refused to the program itself, and to no volume, or a stream failed.
-const NOT_DONE: u8 = 3;
+pub(crate) const NOT_DONE: u8 = 3;
 
 /// Does what the lines say, and answers the exit status.
 pub(crate) fn run<R: Wait>(rt: &HostRuntime, handles: &R) -> u8 {

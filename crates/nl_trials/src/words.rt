@@ -1,4 +1,5 @@
 //! The words that the program is started with, and the numbers that they are.
+use nl_types::decimal;
 use std::{env, io};
 
 fn read_words(rt: &HostRuntime) -> io::Result<Vec<String>> {
@@ -14,11 +15,7 @@ pub(crate) fn all_words(rt: &HostRuntime) -> io::Result<Vec<String>> {
     }
 }
 
-pub(crate) fn number(word: &str) -> Option<u64> {
-    word.parse().ok()
-}
-
 /// A number of things in memory.
 pub(crate) fn size(word: &str) -> Option<usize> {
-    usize::try_from(number(word)?).ok()
+    usize::try_from(decimal(word)?).ok()
 }

@@ -5,3 +5,8 @@ pub mod Located
 pub mod Counts
 pub mod Summaries
 pub mod Facts
+pub mod Content
+pub mod Logs
+pub mod Appended
+pub mod Images
+pub mod FactsOfSpace

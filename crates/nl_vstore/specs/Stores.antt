@@ -13,9 +13,9 @@ use Rattle.nl_device.specs.Failures.{Failures, failure_count}
 use Rattle.nl_layout.specs.declared.tag.Tag.{Tag}
 use Rattle.nl_sufile.specs.BySegment.{lies_in}
 use Rattle.nl_sufile.specs.Table.{IsSegTable}
-use Rattle.nl_space.specs.Content.{SpaceContent, Payload, HoldsOnlyUsed, KeepsUsed, IsFreed, payload_tag}
-use Rattle.nl_space.specs.Logs.{AreWholeLogs}
-use Rattle.nl_space.specs.Appended.{IsAppended, IsBrokenOff}
+use Rattle.nl_vstore.specs.Content.{SpaceContent, Payload, HoldsOnlyUsed, KeepsUsed, IsFreed, payload_tag}
+use Rattle.nl_vstore.specs.Logs.{AreWholeLogs}
+use Rattle.nl_vstore.specs.Appended.{IsAppended, IsBrokenOff}
 use Rattle.nl_vstore.specs.Batches.{Changes, is_taken, items_of, tag_for}
 
 -- what a number in use stands for, and the block where its page is now

@@ -2,8 +2,8 @@
 use Rattle.std.specs.Prelude.{◌≡◌, ℕ, ◌+◌, ◌*◌, List, map, Option}
 use Rattle.nl_types.specs.Blocks.Segments.{info_of}
 use Rattle.nl_types.specs.Blocks.Placing.{blocks_from}
-use Rattle.nl_space.specs.Content.{Payload}
-use Rattle.nl_space.specs.Logs.{FillDevice, WholeLog, slots_of}
+use Rattle.nl_vstore.specs.Content.{Payload}
+use Rattle.nl_vstore.specs.Logs.{FillDevice, WholeLog, slots_of}
 use Rattle.nl_vstore.specs.Stores.{Store, IsStore, device_in, payload_in}
 
 -- the used part of a segment is these logs, on the device alone

@@ -2,8 +2,8 @@
 ghost use Rattle.std.specs.Prelude.{◌≡◌, ℕ, ◌+◌, ◌≤◌, ◌<◌, true, [], ◌∷◌, ◌++◌, length, take, OnOk, OnErr};
 ghost use Rattle.nl_vstore.specs.Batches.{births_of, with_page};
 
+use crate::Payload;
 use nl_layout::Tag;
-use nl_space::Payload;
 use nl_types::{Page, VirtualNumber, VolError};
 use std::alloc::Global;
 use std::marker::Model;

@@ -10,9 +10,9 @@ ghost use Rattle.nl_vstore.specs.Counts.{IsSegmentOf};
 ghost use Rattle.nl_vstore.specs.Summaries.{IsOfLogs, payload_row};
 ghost use Rattle.nl_vstore.specs.Stores.{Store, IsStore, HasGrown, HasNoneFree, IsGrowthRefused, IsWritten, IsWriteRefused, AreInside, IsMoved, IsMoveRefused, IsReclaimed, block_in, capacity, content_in, tag_in};
 
+use crate::Payload;
 use crate::batch::Batch;
 use nl_layout::Tag;
-use nl_space::Payload;
 use nl_sufile::SegTable;
 use nl_types::{CheckpointNumber, Page, Period, Segment, VirtualNumber, VolError};
 use std::alloc::Global;

@@ -11,7 +11,7 @@ use Rattle.nl_types.specs.Plain.CheckpointLaws.{BoundariesAreLeastProtected, Exp
 use Rattle.nl_types.specs.Plain.Rows.{is_snapshot}
 use Rattle.nl_types.specs.Plain.Runs.{Step}
 use Rattle.nl_types.specs.Plain.Worlds.{World, Copy, IsWorld, Reply, boundary_of, copy_at, expiry_of, latest, step, take_out}
-use Rattle.nl_rounds.specs.Rounds.{ends_round}
+use Rattle.nl_commit.specs.Rounds.{ends_round}
 use Rattle.nl_types.specs.Plain.Limits.{log_limit}
 use Rattle.nl_vstore.specs.Located.{needed_count}
 use Rattle.nl_commit.specs.CleaningEvents.{needed_by}

@@ -9,9 +9,9 @@ use nl_check::Verdict;
 use nl_dat::DatEntry;
 use nl_layout::CheckpointEntry;
 use nl_segwriter::Restored;
-use nl_space::{Payload, is_rest_zero};
 use nl_sufile::SegTable;
 use nl_types::{BLOCK_SIZE, Items, VolError};
+use nl_vstore::{Payload, is_rest_zero};
 use std::alloc::{AllocError, Global};
 
 /// What is found of a condition.

@@ -3,7 +3,7 @@ use crate::faults::Fault;
 use jiff::civil::{Date, DateTime};
 use jiff::tz::{SystemTimeZone, TimeZone, TimeZoneDatabase};
 use jiff::{Error, Timestamp, ToSpan};
-use nl_retention::Periods;
+use nl_pins::Periods;
 use std::alloc::Global;
 use std::time::{SystemTime, UNIX_EPOCH};
 

@@ -6,11 +6,11 @@ ghost use Rattle.nl_keep.specs.Volumes.{LeadsTo};
 ghost use Rattle.nl_cleaner.specs.Job.{steps_left};
 
 use nl_cleaner::{Job, plan};
-use nl_config::{Amount, Config};
 use nl_core::Pen;
 use nl_device::Device;
 use nl_keep::remove_minor;
 use nl_keep_pen::{PenVolume, Tidying};
+use nl_protect::{Amount, Config};
 use nl_types::{Moment, VolError};
 use std::alloc::Global;
 

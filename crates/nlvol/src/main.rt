@@ -1,10 +1,17 @@
 //! Runs a script of file calls, checkpoints, mounts and rounds of cleaning on a volume in memory.
 #![tactic(auto)]
 
+mod ending;
+mod inputs;
+pub mod laws;
 mod prompting;
+mod script_volume;
+mod sessions;
+mod starting;
+mod telling;
 
-use nl_session::{SessionEnd, session};
 use prompting::{Typed, Watched};
+use sessions::session;
 use std::cell::Cell;
 use std::fs::File;
 use std::io::{BufWriter, ErrorKind, IsTerminal};
@@ -13,6 +20,7 @@ use std::rt::Files;
 use std::sync::Wait;
 use std::thread::Threads;
 use std::{env, io};
+use telling::SessionEnd;
 
 /// The program's name and the words behind it.
 fn words(rt: &HostRuntime) -> io::Result<Vec<String>> {

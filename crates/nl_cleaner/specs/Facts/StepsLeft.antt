@@ -22,7 +22,7 @@ use Rattle.nl_commit.specs.CleanerViews.{cleaning_event}
 use Rattle.nl_commit.specs.CleaningEvents.{needed_by}
 use Rattle.nl_commit.specs.Layout.{AllowedBetween, Does, IsPen, Layout, layout_of}
 use Rattle.nl_commit.specs.Volume.{without_mount}
-use Rattle.nl_rounds.specs.Rounds.{RoundsEnd, ends_round}
+use Rattle.nl_commit.specs.Rounds.{RoundsEnd, ends_round}
 use Rattle.nl_cleaner.specs.Job.{Cleaning, Ended, Expiring, JobView, SteppedBy, job_after_answer, at_stage, cleaning_left, first_done, left_by, next_by, next_cleaning, next_event, job_after_reply, noted_by, steps_left}
 use Rattle.nl_cleaner.specs.declared.job.Stage.{Stage}
 use Rattle.nl_cleaner.specs.Laws.{StepsEndRounds, UnmountsLeaveRounds}

@@ -10,7 +10,7 @@ use Rattle.nl_types.specs.Blocks.Segments.{Segments, AreTidy, IsUsed, info_of}
 use Rattle.nl_types.specs.Facts.SegmentChanges.{room_of}
 use Rattle.nl_types.specs.Blocks.Entries.{number_of}
 use Rattle.nl_device.specs.Failures.{Failures}
-use Rattle.nl_space.specs.Content.{Payload, SpaceContent, HoldsOnlyUsed, payload_tag}
+use Rattle.nl_vstore.specs.Content.{Payload, SpaceContent, HoldsOnlyUsed, payload_tag}
 use Rattle.nl_dat.specs.declared.entries.DatEntry.{DatEntry}
 use Rattle.nl_vstore.specs.Batches.{birth_of_item, number_of_payload}
 use Rattle.nl_dat.specs.Table.{entry_in, addresses_of}

@@ -12,11 +12,11 @@ use Rattle.nl_types.specs.Facts.NextLogs.{placed}
 use Rattle.nl_types.specs.Facts.UsedParts.{used_inside}
 use Rattle.nl_types.specs.Blocks.PartialMaps.{Stands}
 use Rattle.nl_device.specs.Failures.{Failures}
-use Rattle.nl_space.specs.Content.{SpaceContent, Payload, IsSameAt, IsFreed, KeepsUsed, HoldsOnlyUsed, payload_page}
-use Rattle.nl_space.specs.Logs.{AreWholeLogs}
-use Rattle.nl_space.specs.Appended.{StandInLogs, KeepsOtherBlocks, IsAppended, IsBrokenOff}
-use Rattle.nl_space.specs.Facts.LogNumbers.{logs_inside}
-use Rattle.nl_space.specs.Facts.KeptLogs.{filled_same, stands_kept}
+use Rattle.nl_vstore.specs.Content.{SpaceContent, Payload, IsSameAt, IsFreed, KeepsUsed, HoldsOnlyUsed, payload_page}
+use Rattle.nl_vstore.specs.Logs.{AreWholeLogs}
+use Rattle.nl_vstore.specs.Appended.{StandInLogs, KeepsOtherBlocks, IsAppended, IsBrokenOff}
+use Rattle.nl_vstore.specs.FactsOfSpace.LogNumbers.{logs_inside}
+use Rattle.nl_vstore.specs.FactsOfSpace.KeptLogs.{filled_same, stands_kept}
 use Rattle.nl_dat.specs.declared.entries.DatEntry.{DatEntry}
 use Rattle.nl_vstore.specs.Stores.{payload_in, device_in, space_in}
 use Rattle.nl_dat.specs.Inside.{store_of}

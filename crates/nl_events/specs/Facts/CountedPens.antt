@@ -25,9 +25,9 @@ use Rattle.nl_vstore.specs.Stores.{IsMoveRefused, IsMoved, IsReclaimed, IsStore,
 use Rattle.nl_reclaim.specs.Cleaning.{CanBeMoved, HasListedFirst, HasListedNone, HasMovedFirst, freed_by, judged_for, judged_info, retired, retired_with, split}
 use Rattle.nl_reclaim.specs.Moves.{ListedMovesAreFirst}
 use Rattle.nl_reclaim.specs.declared.moving.MoveCount.{MoveCount}
-use Rattle.nl_counts.specs.Counted.{Counted, IsCounted}
-use Rattle.nl_counts.specs.Events.{AreNeededIn, HasMovedNeeded, IsLatest, IsNextWritten}
-use Rattle.nl_counts.specs.Laws.{EmptyCheckpointsKeepCounts, FirstNeededStandThere, RefusedWritesKeepCounts, RetirementsKeepCounts}
+use Rattle.nl_reclaim.specs.Counted.{Counted, IsCounted}
+use Rattle.nl_reclaim.specs.Events.{AreNeededIn, HasMovedNeeded, IsLatest, IsNextWritten}
+use Rattle.nl_reclaim.specs.Laws.{EmptyCheckpointsKeepCounts, FirstNeededStandThere, RefusedWritesKeepCounts, RetirementsKeepCounts}
 use Rattle.nl_cpfile.specs.Searching.{IsLeastAbove}
 use Rattle.nl_cpfile.specs.Tables.{all, moded}
 use Rattle.nl_cpfile.specs.Tables as cpfile

@@ -2,10 +2,10 @@
 use Rattle.std.proofs.Common.{◌≡◌, ℕ, Bool, true, false, [], refl, ap, arith}
 use Rattle.std.proofs.lemmas.List.Elements.{All-nil}
 use Rattle.nl_types.specs.Blocks.Entries.{Content}
-use Rattle.nl_space.specs.Appended.{IsAppended}
+use Rattle.nl_vstore.specs.Appended.{IsAppended}
 use Rattle.nl_vstore.specs.Batches.{CanBeTaken}
 use Rattle.nl_vstore.specs.Stores.{IsMoved, IsWritten, KeepsStored, Store, address_in, is_inside, space_in}
-use Rattle.nl_counts.specs.Laws.{no_changes}
+use Rattle.nl_reclaim.specs.Laws.{no_changes}
 
 -- a store keeps what it stores where it is the same
 pub keeps-same : (old new : Store) → new ≡ old → KeepsStored old new

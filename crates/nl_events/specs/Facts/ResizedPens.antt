@@ -20,7 +20,7 @@ use Rattle.nl_types.specs.Plain.Runs.{Step}
 use Rattle.nl_types.specs.Plain.Worlds.{Reply, World}
 use Rattle.nl_vstore.specs.Located.{needed_count}
 use Rattle.nl_vstore.specs.Stores.{HasGrown, IsGrowthRefused, IsStore, Store, capacity, content_in, entry_now}
-use Rattle.nl_counts.specs.Counted.{Counted}
+use Rattle.nl_reclaim.specs.Counted.{Counted}
 use Rattle.nl_events.specs.CleanedPens.{StaysPen}
 use Rattle.nl_commit.specs.CleaningEvents.{HasResized, HasResizedNone, kept_numbers, resized_by}
 use Rattle.nl_commit.specs.Commits.{with_room}

@@ -8,9 +8,9 @@ use Rattle.nl_types.specs.declared.segment.SegmentInfo.{SegmentInfo}
 use Rattle.nl_types.specs.Blocks.Segments.{Segments, IsUsed, clean_info, info_of}
 use Rattle.nl_device.specs.Failures.{no_failures}
 use Rattle.nl_device.specs.Pages.{DevicePages}
-use Rattle.nl_space.specs.Content.{HeldPayload, Payload}
-use Rattle.nl_space.specs.Logs.{FillDevice, FillUpTo, WholeLog}
-use Rattle.nl_space.specs.Facts.KeptLogs.{fill_kept}
+use Rattle.nl_vstore.specs.Content.{HeldPayload, Payload}
+use Rattle.nl_vstore.specs.Logs.{FillDevice, FillUpTo, WholeLog}
+use Rattle.nl_vstore.specs.FactsOfSpace.KeptLogs.{fill_kept}
 use Rattle.nl_vstore.specs.Batches.{number_of_payload}
 use Rattle.nl_vstore.specs.Stores.{Store}
 use Rattle.nl_vstore.specs.Summaries.{SummariesAreOne}

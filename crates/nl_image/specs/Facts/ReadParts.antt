@@ -8,8 +8,8 @@ use Rattle.nl_types.specs.declared.error.VolError.TheVariants.{BadImage, Memory}
 use Rattle.nl_types.specs.Blocks.Segments.{IsUsed}
 use Rattle.nl_device.specs.Pages.{DevicePages}
 use Rattle.nl_layout.specs.declared.checkpoint_entry.CheckpointEntry.{CheckpointEntry}
-use Rattle.nl_space.specs.Content.{Payload}
-use Rattle.nl_space.specs.Images.{IsRestZero, pages_of_bytes}
+use Rattle.nl_vstore.specs.Content.{Payload}
+use Rattle.nl_vstore.specs.Images.{IsRestZero, pages_of_bytes}
 use Rattle.nl_vstore.specs.Periods.{Periods}
 use Rattle.nl_vstore.specs.Summaries.{SummariesAreOne}
 use Rattle.nl_types.specs.Blocks.Roots.{Pages}

@@ -8,7 +8,7 @@ use Rattle.nl_types.specs.Blocks.Entries.{Entry, period_of}
 use Rattle.nl_types.specs.Blocks.Roots.{pages_of}
 use Rattle.nl_types.specs.Blocks.Segments.{IsUsed, total_blocks}
 use Rattle.nl_device.specs.Pages.{DevicePages}
-use Rattle.nl_space.specs.Content.{HeldPayload}
+use Rattle.nl_vstore.specs.Content.{HeldPayload}
 use Rattle.nl_vstore.specs.Batches.{number_of_payload}
 use Rattle.nl_vstore.specs.Periods.{periods_of}
 use Rattle.nl_vstore.specs.Stores.{IsStore, Numbered, Store, address_in, block_now, content_in, device_in, entry_now, numbered_in, payload_in}

@@ -4,7 +4,7 @@ use Rattle.std.proofs.lemmas.List.{get_or-set_other}
 use Rattle.nl_types.specs.declared.error.VolError.TheVariants.{Fault, Memory, NoSpace}
 use Rattle.nl_types.specs.Blocks.Segments.{Segments, IsClosed, clean_info, info_of}
 use Rattle.nl_types.specs.Facts.ClosedSegments.{closed-stay, closed-stay-at-faults}
-use Rattle.nl_space.specs.Content.{Payload}
+use Rattle.nl_vstore.specs.Content.{Payload}
 use Rattle.nl_vstore.specs.Stores.{Store, IsStore, IsFaulted, KeepsStored}
 use Rattle.nl_reclaim.specs.Moves.{MovesKeepClosed, RefusedMovesKeepClosed, RetirementsKeepOthers}
 

@@ -7,7 +7,7 @@ use Rattle.nl_commands.specs.LineMeanings.{LineRead}
 use Rattle.nl_commands.specs.declared.command.Command.{Command}
 use Rattle.nl_commands.specs.declared.command.Command.TheVariants.{At, Catm, Clean, Lssu}
 use Rattle.nl_commands.specs.declared.error.LineError.TheVariants.{Usage, Memory}
-use Rattle.nl_config.specs.declared.config.Config.{Config}
+use Rattle.nl_protect.specs.declared.config.Config.{Config}
 use Rattle.nl_commit.specs.Layout.{Layout}
 use Rattle.nl_script.specs.Simulations.{IsSimulation, LinesAreSimulated}
 use Rattle.nl_script.specs.Habits.{Habits}

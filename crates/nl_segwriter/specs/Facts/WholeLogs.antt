@@ -15,9 +15,9 @@ use Rattle.nl_types.specs.Blocks.Placing.{end_of, first_block, IsNextLog, with_l
 use Rattle.nl_types.specs.Facts.SegmentChanges.{length-none_active, info_same, used_same, used_other, room_of}
 use Rattle.nl_types.specs.Facts.UsedParts.{outside_row, outside_segment, used_row, stays_with_log, stays_with_error}
 use Rattle.nl_device.specs.Pages.{DevicePages, ClearsBlocks}
-use Rattle.nl_space.specs.Content.{SpaceContent, HeldPayload, payload_page, SameOutside, IsSameAt, HoldsOnlyUsed, IsEmptied, IsFreed}
-use Rattle.nl_space.specs.Logs.{WholeLog, StandsFrom, FillUpTo, IsFilledBy, AreWholeLogs}
-use Rattle.nl_space.specs.Facts.KeptLogs.{fill_kept, filled_same}
+use Rattle.nl_vstore.specs.Content.{SpaceContent, HeldPayload, payload_page, SameOutside, IsSameAt, HoldsOnlyUsed, IsEmptied, IsFreed}
+use Rattle.nl_vstore.specs.Logs.{WholeLog, StandsFrom, FillUpTo, IsFilledBy, AreWholeLogs}
+use Rattle.nl_vstore.specs.FactsOfSpace.KeptLogs.{fill_kept, filled_same}
 use Rattle.nl_segwriter.specs.Writing.{SameOutsideLog, held_in}
 
 -- one more log behind the others

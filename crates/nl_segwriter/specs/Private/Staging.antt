@@ -4,8 +4,8 @@ use Rattle.nl_types.specs.Plain.Limits.{log_limit}
 use Rattle.nl_types.specs.declared.segment.Log.{Log}
 use Rattle.nl_layout.specs.Summary.{SummaryHasSpelling, summary_bytes}
 use Rattle.nl_segwriter.specs.declared.staging.Staged.{Staged}
-use Rattle.nl_space.specs.Content.{Payload, payload_page}
-use Rattle.nl_space.specs.Logs.{WholeLog, contents_of}
+use Rattle.nl_vstore.specs.Content.{Payload, payload_page}
+use Rattle.nl_vstore.specs.Logs.{WholeLog, contents_of}
 
 -- the log that is to stand
 abbrev pub whole_of : Staged → WholeLog

@@ -1,7 +1,7 @@
 //! Planned rounds of cleaning, whose events come again where memory is refused to them.
 use crate::rows::again::{Tally, Volume};
 use nl_cleaner::Job;
-use nl_config::{Amount, Config};
+use nl_protect::{Amount, Config};
 use nl_types::{Answer, Reply, VolError};
 use std::alloc::Global;
 use std::mem::swap;

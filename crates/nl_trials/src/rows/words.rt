@@ -1,5 +1,6 @@
 //! The words of a line. One that isn't there is empty, and a word that is no number stands for 0.
-use crate::words::{number, size};
+use crate::words::size;
+use nl_types::decimal;
 use std::alloc::Global;
 use std::io;
 
@@ -17,7 +18,7 @@ pub(crate) fn word_at<'a>(words: &[&'a str], place: usize) -> &'a str {
 
 /// The number at a place, or another one where there is none.
 pub(crate) fn number_or(words: &[&str], place: usize, other: u64) -> u64 {
-    number(word_at(words, place)).unwrap_or(other)
+    decimal(word_at(words, place)).unwrap_or(other)
 }
 
 pub(crate) fn number_at(words: &[&str], place: usize) -> u64 {
@@ -36,7 +37,7 @@ pub(crate) fn has_word(words: &[&str], due: &str) -> bool {
 /// The number behind a word.
 pub(crate) fn number_behind(words: &[&str], due: &str) -> Option<u64> {
     let place = words.iter().position(|word| *word == due)?;
-    number(word_at(words, place.saturating_add(1)))
+    decimal(word_at(words, place.saturating_add(1)))
 }
 
 /// The byte at a place, or 0.

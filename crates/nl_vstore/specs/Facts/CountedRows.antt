@@ -1,7 +1,7 @@
 -- Rows of blocks that grow at their end.
 use Rattle.std.proofs.Common.{◌≡◌, ◌≤◌, ℕ, zero, suc, ◌+◌, List, [], ◌++◌, Option, Some, None, sym, refl, ap, ◌∙◌, length, length-append, arith}
 use Rattle.std.specs.Prelude.{slice_index_or}
-use Rattle.nl_space.specs.Content.{Payload}
+use Rattle.nl_vstore.specs.Content.{Payload}
 use Rattle.nl_vstore.specs.Located.{AreCounted, block_if, in_row, onto, picked}
 
 onto-append : (o : Option ℕ) (xs ys : List ℕ) → onto o (xs ++ ys) ≡ onto o xs ++ ys

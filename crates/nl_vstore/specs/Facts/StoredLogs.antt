@@ -10,8 +10,8 @@ use Rattle.nl_types.specs.Blocks.Segments.{info_of}
 use Rattle.nl_types.specs.Blocks.Placing.{blocks_from}
 use Rattle.nl_layout.specs.Summary.{Contents, Spells, summary_bytes}
 use Rattle.nl_layout.specs.Facts.Reading.{contents-Spells}
-use Rattle.nl_space.specs.Content.{HeldPayload, Payload, StandInRow, payload_page, payload_tag}
-use Rattle.nl_space.specs.Logs.{WholeLog, FillDevice, FillUpTo, IsOnDevice, contents_of, slots_of}
+use Rattle.nl_vstore.specs.Content.{HeldPayload, Payload, StandInRow, payload_page, payload_tag}
+use Rattle.nl_vstore.specs.Logs.{WholeLog, FillDevice, FillUpTo, IsOnDevice, contents_of, slots_of}
 use Rattle.nl_vstore.specs.Stores.{Store, IsStore, device_in, payload_in}
 use Rattle.nl_vstore.specs.Summaries.{StandOnDevice, IsOfLogs, payload_row}
 

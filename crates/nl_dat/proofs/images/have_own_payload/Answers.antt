@@ -3,7 +3,7 @@ use borrow.Author.Count.{below_more}
 use Rattle.std.specs.Option.{IfSome}
 use Rattle.std.proofs.lemmas.List.{get_or_default}
 use Rattle.nl_types.specs.Blocks.Segments.{IsUsed}
-use Rattle.nl_space.specs.Content.{SpaceContent}
+use Rattle.nl_vstore.specs.Content.{SpaceContent}
 use Rattle.nl_dat.specs.declared.entries.DatEntry.{DatEntry}
 use Rattle.nl_dat.specs.Images.{HasOwn}
 use Rattle.nl_dat.specs.Table.{entry_in}

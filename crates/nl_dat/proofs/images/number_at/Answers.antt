@@ -1,6 +1,6 @@
 use Rattle.std.proofs.Common.{◌≡◌, ℕ, ◌/◌, ◌*◌, ◌∙◌, ap, refl, length}
 use Rattle.nl_types.specs.Blocks.Segments.{Segments, info_of}
-use Rattle.nl_space.specs.Content.{IsRowOf, SpaceContent}
+use Rattle.nl_vstore.specs.Content.{IsRowOf, SpaceContent}
 use Rattle.nl_dat.proofs.OwnPayload.{number_in-row, used_segment}
 use Rattle.nl_dat.proofs.images.number_at.Goals as goal
 

@@ -5,7 +5,7 @@ use Rattle.std.proofs.lemmas.Result.{err_from_is_err_and}
 use Rattle.nl_types.specs.declared.error.VolError.TheVariants.{Fault}
 use Rattle.nl_types.specs.Blocks.Entries.{Birth}
 use Rattle.nl_device.specs.Facts.Counting.{counts-reads, fails-to-read}
-use Rattle.nl_space.specs.Content.{Payload, SpaceContent}
+use Rattle.nl_vstore.specs.Content.{Payload, SpaceContent}
 use Rattle.nl_vstore.specs.Batches.{birth_of_item, births_of}
 use Rattle.nl_dat.specs.Inside.{birth_under}
 use Rattle.nl_dat.proofs.moving.load_all.Goals as goal

@@ -3,7 +3,7 @@ use Rattle.std.specs.Prelude.{slice_index_or}
 use Rattle.std.specs.Option.{option_map}
 use Rattle.nl_types.specs.Blocks.Segments.{Segments}
 use Rattle.nl_layout.specs.declared.tag.Tag.{Tag}
-use Rattle.nl_space.specs.Content.{Payload, SpaceContent, payload_tag}
+use Rattle.nl_vstore.specs.Content.{Payload, SpaceContent, payload_tag}
 use Rattle.nl_dat.proofs.Loading.{found, loaded}
 use Rattle.nl_dat.proofs.moving.load_one.Goals as goal
 

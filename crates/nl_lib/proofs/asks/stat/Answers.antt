@@ -3,7 +3,7 @@ use Rattle.nl_types.specs.declared.event.Ask.TheVariants as ask
 use Rattle.nl_types.specs.declared.event.Event.TheVariants as event
 use Rattle.nl_types.specs.declared.reply.Answer.TheVariants as answer
 use Rattle.nl_commit.specs.Layout.{Does, unshared}
-use Rattle.nl_calls.specs.Replies.{reply_with}
+use Rattle.nl_types.specs.Replies.{reply_with}
 use Rattle.nl_lib.proofs.Answered.{has-answered, read-stays, stat-reply}
 use Rattle.nl_lib.proofs.asks.stat.Goals as goal
 

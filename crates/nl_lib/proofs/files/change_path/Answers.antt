@@ -1,7 +1,7 @@
 use Rattle.std.proofs.Common.{ap, ◌∙◌, subst}
 use Rattle.nl_types.specs.declared.event.Change.{Change}
 use Rattle.nl_types.specs.declared.event.Event.TheVariants as event
-use Rattle.nl_calls.specs.Changes.{change_at}
+use Rattle.nl_types.specs.Changes.{change_at}
 use Rattle.nl_lib.proofs.Answered.{change-lacking, path-done}
 use Rattle.nl_lib.proofs.Replies.{IsDone, done-replied}
 use Rattle.nl_lib.proofs.files.change_path.Goals as goal

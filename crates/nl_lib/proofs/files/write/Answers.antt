@@ -4,7 +4,7 @@ use Rattle.nl_types.specs.declared.event.Event.TheVariants as event
 use Rattle.nl_types.specs.declared.reply.Answer.TheVariants as answer
 use Rattle.nl_types.specs.Plain.Worlds.{Reply}
 use Rattle.nl_commit.specs.Layout.{Does, unshared}
-use Rattle.nl_calls.specs.Replies.{reply_with}
+use Rattle.nl_types.specs.Replies.{reply_with}
 use Rattle.nl_lib.proofs.Answered.{change-lacking, has-answered, write-reply}
 use Rattle.nl_lib.proofs.files.write.Goals as goal
 

@@ -1,6 +1,6 @@
 use Rattle.std.proofs.Common.{ap, refl, sym, subst, ◌∙◌}
 use Rattle.nl_publish.specs.Histories.{Known}
-use Rattle.nl_lanes.specs.Reading.{IsLater}
+use Rattle.nl_publish.specs.Reading.{IsLater}
 use Rattle.nl_mounts.specs.Ports.{PortView}
 use Rattle.nl_mounts.specs.Sharing.Tells.{Came}
 use Rattle.nl_mounts.proofs.FirstSeen.{known_on}

@@ -1,6 +1,6 @@
 use Rattle.std.proofs.Common.{◌≡◌, length, arith}
 use Rattle.std.proofs.lemmas.Result.{err_from_is_err_and}
-use Rattle.nl_space.specs.Logs.{contents_of}
+use Rattle.nl_vstore.specs.Logs.{contents_of}
 use Rattle.nl_segwriter.specs.Images.{page_in}
 use Rattle.nl_segwriter.specs.Writing.{held_in}
 use Rattle.nl_segwriter.proofs.ImageLogs.{log_held_with, pages_there, tags_told}

@@ -1,6 +1,6 @@
 use Rattle.std.proofs.Common.{◌∙◌, ap, sym, Some, arith}
 use Rattle.nl_types.specs.Blocks.Segments.{total_blocks}
-use Rattle.nl_space.specs.Facts.ImageBlocks.{page_part}
+use Rattle.nl_vstore.specs.FactsOfSpace.ImageBlocks.{page_part}
 use Rattle.nl_segwriter.proofs.images.read_page.Goals as goal
 
 pub returns-clause-used : goal.returns-clause-used

@@ -1,6 +1,6 @@
 use Rattle.std.proofs.Common.{◌≡◌, ◌*◌, arith, refl}
 use Rattle.nl_types.specs.Blocks.Segments.{total_blocks}
-use Rattle.nl_space.specs.Images.{pages_of_bytes}
+use Rattle.nl_vstore.specs.Images.{pages_of_bytes}
 use Rattle.nl_segwriter.proofs.ImagePages.{all_pages, more_pages}
 use Rattle.nl_segwriter.proofs.images.read_pages.Goals as goal
 

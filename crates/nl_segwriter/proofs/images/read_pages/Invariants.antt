@@ -1,4 +1,4 @@
-use Rattle.nl_space.specs.Images.{pages_of_bytes}
+use Rattle.nl_vstore.specs.Images.{pages_of_bytes}
 use Rattle.nl_segwriter.proofs.ImagePages.{AreUsedBelow}
 use Rattle.nl_segwriter.proofs.images.read_pages.Given as goal
 

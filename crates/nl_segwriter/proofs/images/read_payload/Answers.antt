@@ -1,7 +1,7 @@
 use Rattle.std.proofs.Common.{◌≡◌, ℕ, ◌+◌, ◌*◌, ◌∙◌, ap, subst, arith}
 use Rattle.std.proofs.lemmas.Result.{err_from_is_err_and}
 use Rattle.nl_types.specs.Blocks.Segments.{Segments, info_of}
-use Rattle.nl_space.specs.Logs.{FillUpTo}
+use Rattle.nl_vstore.specs.Logs.{FillUpTo}
 use Rattle.nl_segwriter.specs.Images.{IsHeld, SameAround, used_end, used_start, page_in}
 use Rattle.nl_segwriter.specs.Writing.{held_in}
 use Rattle.nl_segwriter.proofs.ImagePayload.{more_held}

@@ -1,5 +1,5 @@
 use Rattle.std.proofs.Common.{◌≡◌, ℕ, ◌+◌, ◌<◌, ◌≤◌, length, None}
-use Rattle.nl_space.specs.Content.{SameOutside}
+use Rattle.nl_vstore.specs.Content.{SameOutside}
 use Rattle.nl_segwriter.specs.Writing.{held_in}
 use Rattle.nl_segwriter.proofs.payload.drop_row.Given as goal
 

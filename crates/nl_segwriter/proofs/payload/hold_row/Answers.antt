@@ -2,7 +2,7 @@ use Rattle.std.proofs.Common.{◌≡◌, ◌≢◌, ℕ, suc, ◌+◌, ◌<◌, 
 use Rattle.std.proofs.lemmas.List.{length-set, get_or-set_same, get_or-set_other}
 use Rattle.std.specs.Prelude.{slice_get}
 use Rattle.std.specs.Vec.Iter.{into_iter_items}
-use Rattle.nl_space.specs.Content.{Payload}
+use Rattle.nl_vstore.specs.Content.{Payload}
 use Rattle.nl_segwriter.specs.Writing.{held_in}
 use Rattle.nl_segwriter.proofs.Rows.{stand_one, others_one}
 use Rattle.nl_segwriter.proofs.payload.hold_row.Goals as goal

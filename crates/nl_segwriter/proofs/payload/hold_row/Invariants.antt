@@ -1,7 +1,7 @@
 use Rattle.std.proofs.Common.{◌≡◌, ℕ, ◌+◌, ◌<◌, ◌≤◌, length}
 use Rattle.std.specs.Prelude.{slice_get}
 use Rattle.std.specs.Vec.Iter.{into_iter_items, into_iter_len}
-use Rattle.nl_space.specs.Content.{SameOutside}
+use Rattle.nl_vstore.specs.Content.{SameOutside}
 use Rattle.nl_segwriter.specs.Writing.{held_in}
 use Rattle.nl_segwriter.proofs.payload.hold_row.Given as goal
 

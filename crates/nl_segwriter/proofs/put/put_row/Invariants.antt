@@ -1,7 +1,7 @@
 use Rattle.std.proofs.Common.{◌≡◌, ℕ, ◌+◌, ◌<◌, length}
 use Rattle.std.specs.Prelude.{slice_get}
 use Rattle.std.specs.Vec.Iter.{into_iter_items}
-use Rattle.nl_space.specs.Content.{SameOutside}
+use Rattle.nl_vstore.specs.Content.{SameOutside}
 use Rattle.nl_segwriter.proofs.put.put_row.Given as goal
 
 -- the pages tried so far stand at their numbers, and the iterator has those behind them

@@ -1,5 +1,5 @@
 use Rattle.std.proofs.Common.{◌≡◌, ◌∷◌, map, take}
-use Rattle.nl_space.specs.Content.{payload_tag, payload_page}
+use Rattle.nl_vstore.specs.Content.{payload_tag, payload_page}
 use Rattle.nl_layout.specs.Summary.{SummaryHasSpelling, summary_bytes}
 use Rattle.nl_segwriter.proofs.staging.pages_of.Given as goal
 

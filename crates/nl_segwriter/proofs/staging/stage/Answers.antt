@@ -2,7 +2,7 @@ use Rattle.std.proofs.Common.{◌≡◌, List, [], ◌∷◌, append-nil, drop, 
 use Rattle.std.proofs.lemmas.List.{drop_all}
 use Rattle.nl_types.specs.declared.segment.Log.{Log}
 use Rattle.nl_types.specs.Blocks.Placing.{payload_count}
-use Rattle.nl_space.specs.Content.{Payload}
+use Rattle.nl_vstore.specs.Content.{Payload}
 use Rattle.nl_segwriter.specs.declared.staging.Staged.{Staged}
 use Rattle.nl_segwriter.specs.Private.Staging.{AreStaged}
 use Rattle.nl_segwriter.proofs.staging.stage.Goals as goal

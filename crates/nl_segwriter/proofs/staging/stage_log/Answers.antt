@@ -1,7 +1,7 @@
 use Rattle.std.proofs.Common.{◌≡◌, ◌∷◌, List, length, map, refl, ap, sym, subst, ◌∙◌}
 use Rattle.nl_layout.specs.Summary.{SummaryHasSpelling, summary_bytes}
-use Rattle.nl_space.specs.Content.{Payload, payload_tag, payload_page}
-use Rattle.nl_space.specs.Logs.{WholeLog}
+use Rattle.nl_vstore.specs.Content.{Payload, payload_tag, payload_page}
+use Rattle.nl_vstore.specs.Logs.{WholeLog}
 use Rattle.nl_segwriter.proofs.staging.stage_log.Goals as goal
 
 pub returns : goal.returns

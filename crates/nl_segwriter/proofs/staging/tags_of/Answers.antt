@@ -1,7 +1,7 @@
 use Rattle.std.proofs.Common.{◌≡◌, ◌+◌, ◌<◌, ◌∷◌, [], ◌++◌, List, length, map, take, arith, ap, sym, ◌∙◌}
 use Rattle.std.proofs.lemmas.List.{map-append, take_more}
 use Rattle.nl_layout.specs.declared.tag.Tag.{Tag}
-use Rattle.nl_space.specs.Content.{Payload, payload_tag}
+use Rattle.nl_vstore.specs.Content.{Payload, payload_tag}
 use Rattle.nl_segwriter.proofs.staging.tags_of.Goals as goal
 
 pub loop-tag-preserved : goal.loop-tag-preserved

@@ -1,5 +1,5 @@
 use Rattle.std.proofs.Common.{◌≡◌, map, take}
-use Rattle.nl_space.specs.Content.{payload_tag}
+use Rattle.nl_vstore.specs.Content.{payload_tag}
 use Rattle.nl_segwriter.proofs.staging.tags_of.Given as goal
 
 abbrev pub invariant-loop-tag : goal.invariant-loop-tag

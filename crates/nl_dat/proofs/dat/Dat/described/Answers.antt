@@ -1,7 +1,7 @@
 use Rattle.std.proofs.Common.{◌≡◌, ◌*◌, ◌<◌, ℕ, IfOk, List, Option, length, sym, ap, subst, ◌∙◌}
 use Rattle.nl_types.specs.Blocks.PartialMaps.{Partial}
 use Rattle.nl_types.specs.Blocks.Segments.{Segments}
-use Rattle.nl_space.specs.Content.{Payload}
+use Rattle.nl_vstore.specs.Content.{Payload}
 use Rattle.nl_dat.specs.declared.bdesc.Bdesc.{Bdesc}
 use Rattle.nl_dat.specs.Described.{descs_from, descs_of}
 use Rattle.nl_vstore.specs.Summaries.{payload_row}

@@ -1,7 +1,7 @@
 use Rattle.std.proofs.Common.{◌+◌, subst, sym}
 use Rattle.std.proofs.lemmas.Result.{on_ok_weaker}
-use Rattle.nl_space.specs.Content.{SpaceContent}
-use Rattle.nl_space.specs.Images.{AreBlocksOf}
+use Rattle.nl_vstore.specs.Content.{SpaceContent}
+use Rattle.nl_vstore.specs.Images.{AreBlocksOf}
 use Rattle.nl_vstore.specs.Stores.{Store, space_in}
 use Rattle.nl_dat.specs.Inside.{IsDatTable}
 use Rattle.nl_dat.proofs.ShownBlocks.{blocks-store_of}

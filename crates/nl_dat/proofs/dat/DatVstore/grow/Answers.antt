@@ -3,7 +3,7 @@ use Rattle.std.specs.Prelude.{Err, replicate}
 use Rattle.std.proofs.Math.Nat.{mul-le-mul_right}
 use Rattle.nl_device.specs.Failures.{failure_count}
 use Rattle.nl_types.specs.Blocks.Segments.{Segments}
-use Rattle.nl_space.specs.Content.{IsGrown, SpaceContent}
+use Rattle.nl_vstore.specs.Content.{IsGrown, SpaceContent}
 use Rattle.nl_vstore.specs.Stores.{HasGrown, IsGrowthRefused, Store}
 use Rattle.nl_dat.specs.declared.entries.DatEntry.{DatEntry}
 use Rattle.nl_dat.specs.Inside.{IsDatTable, store_of}

@@ -3,7 +3,7 @@ use Rattle.std.proofs.Math.Nat.{mul-le-mul_right}
 use Rattle.nl_types.specs.Blocks.Segments.{Segments, info_of}
 use Rattle.nl_types.specs.Facts.SegmentChanges.{room_of}
 use Rattle.nl_device.specs.Failures.{failure_count}
-use Rattle.nl_space.specs.Content.{SpaceContent}
+use Rattle.nl_vstore.specs.Content.{SpaceContent}
 use Rattle.nl_dat.specs.declared.entries.DatEntry.{DatEntry}
 use Rattle.nl_dat.specs.declared.reclaim.TakenOut.{TakenOut}
 use Rattle.nl_dat.specs.Table.{entry_in, addresses_of}

@@ -6,8 +6,8 @@ use Rattle.std.proofs.lemmas.List.{length-map}
 use Rattle.nl_types.specs.Blocks.Segments.{IsClosed, StaysUsed}
 use Rattle.nl_types.specs.Blocks.PartialMaps.{Partial, adjust_each}
 use Rattle.nl_device.specs.Failures.{Failures, failure_count}
-use Rattle.nl_space.specs.Content.{Payload, SpaceContent, KeepsUsed}
-use Rattle.nl_space.specs.Appended.{IsAppended}
+use Rattle.nl_vstore.specs.Content.{Payload, SpaceContent, KeepsUsed}
+use Rattle.nl_vstore.specs.Appended.{IsAppended}
 use Rattle.nl_dat.specs.declared.entries.DatEntry.{DatEntry}
 use Rattle.nl_vstore.specs.Batches.{births_of}
 use Rattle.nl_dat.specs.Table.{addresses_of, entry_in, stored_at, moved_entry}

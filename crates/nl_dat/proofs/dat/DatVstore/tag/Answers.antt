@@ -16,7 +16,7 @@ returns g c =
     (sym (same_store c.self.view_is)) c.requires.position in
     c.row_tag.ensures
     ∙ subst (λ (s : Store).
-    Rattle.std.specs.Option.option_map Rattle.nl_space.specs.Content.payload_tag
+    Rattle.std.specs.Option.option_map Rattle.nl_vstore.specs.Content.payload_tag
     (Rattle.std.specs.Prelude.slice_index_or c.summary.result.now c.args.position
     Rattle.std.proofs.Common.None)
     ≡ tag_in s (c.args.segment * s.segments.blocks + c.args.position))

@@ -5,7 +5,7 @@ use Rattle.std.proofs.lemmas.List.{length-map}
 use Rattle.nl_types.specs.Blocks.Entries.{number_of}
 use Rattle.nl_types.specs.Blocks.PartialMaps.{put_each, adjust_all}
 use Rattle.nl_types.specs.Facts.PartialMaps.{is_one_of-get_or}
-use Rattle.nl_space.specs.Content.{Payload}
+use Rattle.nl_vstore.specs.Content.{Payload}
 use Rattle.nl_dat.specs.declared.entries.DatEntry.{DatEntry}
 use Rattle.nl_vstore.specs.Batches.{Changes, CanBeTaken, birth_of_item, births_of, items_of, last_number}
 use Rattle.nl_dat.specs.Table.{entry_in, new_entry, ended_entry}
@@ -17,8 +17,8 @@ use Rattle.nl_types.specs.Blocks.Segments.{AreTidy, total_blocks}
 use Rattle.nl_types.specs.Blocks.Placing as placing
 use Rattle.nl_types.specs.Blocks.PlacingLaws.{WhatFitsHasRoom}
 use Rattle.nl_device.specs.Failures.{Failures, failure_count}
-use Rattle.nl_space.specs.Content.{SpaceContent}
-use Rattle.nl_space.specs.Appended.{IsAppended}
+use Rattle.nl_vstore.specs.Content.{SpaceContent}
+use Rattle.nl_vstore.specs.Appended.{IsAppended}
 use Rattle.nl_dat.specs.Inside.{IsDatTable}
 use Rattle.nl_dat.proofs.FreeNumbers.{numbers-inside}
 use Rattle.nl_dat.proofs.StoreOf.{is_store, same_store}

@@ -3,8 +3,8 @@ use Rattle.std.specs.Prelude.{Ok}
 use Rattle.std.proofs.lemmas.Result.{err_from_is_err_and}
 use Rattle.nl_types.specs.declared.event.Event.TheVariants as event
 use Rattle.nl_types.specs.declared.reply.Answer.TheVariants as answer
-use Rattle.nl_counts.specs.Counted.{IsCounted}
-use Rattle.nl_counts.specs.Events.{IsNextWritten}
+use Rattle.nl_reclaim.specs.Counted.{IsCounted}
+use Rattle.nl_reclaim.specs.Events.{IsNextWritten}
 use Rattle.nl_commit.specs.CleaningEvents.{kept_numbers}
 use Rattle.nl_commit.specs.Layout.{layout_of}
 use Rattle.nl_commit.specs.Notes.{DoesTelling}

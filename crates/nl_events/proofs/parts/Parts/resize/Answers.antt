@@ -6,7 +6,7 @@ use Rattle.nl_types.specs.declared.error.VolError.TheVariants as error
 use Rattle.nl_types.specs.declared.event.Event.TheVariants.{Resize}
 use Rattle.nl_types.specs.declared.reply.Answer.TheVariants as answer
 use Rattle.nl_types.specs.Blocks.Segments.{Segments}
-use Rattle.nl_counts.specs.Counted.{Counted}
+use Rattle.nl_reclaim.specs.Counted.{Counted}
 use Rattle.nl_commit.specs.CleaningEvents.{kept_numbers, resized_in}
 use Rattle.nl_commit.specs.Layout.{layout_of}
 use Rattle.nl_commit.specs.Notes.{told_where, where_true}

@@ -1,7 +1,7 @@
 use Rattle.std.proofs.Common.{Bool, ℕ, ◌≤◌, ◌++◌, drop, length, Option, Ok, ap, subst, sym, arith}
 use Rattle.std.specs.Prelude.{IfErr, IfSome}
 use Rattle.std.proofs.lemmas.List.{length-take}
-use Rattle.nl_lanes.specs.Reading.{Told}
+use Rattle.nl_publish.specs.Reading.{Told}
 use Rattle.nl_mounts.specs.OpenFiles.{IsFileRead, IsPartRefused}
 use Rattle.nl_mounts.specs.Ports.{IsNotRead, IsUngiven, PortView}
 use Rattle.nl_mounts.specs.Taking.{TakenView}

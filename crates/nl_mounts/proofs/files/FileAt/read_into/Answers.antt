@@ -2,7 +2,7 @@ use Rattle.std.proofs.Common.{Err, ap, refl, sym, subst}
 use Rattle.nl_types.specs.declared.error.VolError.{VolError}
 use Rattle.nl_commit.specs.Shown.{pages_shown}
 use Rattle.nl_publish.specs.Histories.{IsBegun, Known}
-use Rattle.nl_lanes.specs.Reading.{Looked}
+use Rattle.nl_publish.specs.Reading.{Looked}
 use Rattle.nl_mounts.specs.OpenFiles.{FileView, HoldsAsTold, IsFileRead}
 use Rattle.nl_mounts.specs.Ports.{Finds, IsNotRead, IsSeenOn, IsUngiven, Misses, PortView}
 use Rattle.nl_mounts.proofs.Looking.{back_at, comes, missed}

@@ -1,5 +1,5 @@
 use Rattle.std.proofs.Common.{Bool, refl, ap, ◌∙◌, subst, arith}
-use Rattle.nl_lanes.specs.Facts.Later.{later_on, later_self}
+use Rattle.nl_publish.specs.FactsOfLanes.Later.{later_on, later_self}
 use Rattle.nl_mounts.specs.OpenFiles.{FileView, IsFileOf, IsPartRefused}
 use Rattle.nl_mounts.specs.Ports.{IsUngiven, PortView, seeing}
 use Rattle.nl_mounts.proofs.FileParts.{at_end, at_room, none_read, part_on}

@@ -2,7 +2,7 @@ use Rattle.std.proofs.Common.{◌≡◌, ◌+◌, ◌-◌, ◌<◌, ◌≤◌, �
 use Rattle.nl_types.specs.Plain.Trees.{Tree}
 use Rattle.nl_commit.specs.Commits.{shown_after}
 use Rattle.nl_publish.specs.Told.{TreeOn}
-use Rattle.nl_lanes.specs.Reading.{IsLater}
+use Rattle.nl_publish.specs.Reading.{IsLater}
 use Rattle.nl_mounts.specs.OpenFiles.{IsReadUpTo}
 use Rattle.nl_mounts.specs.Ports.{seeing}
 use Rattle.nl_mounts.proofs.files.FileAt.read_parts.Given as goal

@@ -1,6 +1,6 @@
 use Rattle.std.proofs.Common.{ap, refl, sym, subst, ◌∙◌}
 use Rattle.nl_publish.specs.Histories.{Known}
-use Rattle.nl_lanes.specs.Reading.{IsLater}
+use Rattle.nl_publish.specs.Reading.{IsLater}
 use Rattle.nl_mounts.specs.Ports.{IsSeenOn, IsUngiven, PortView}
 use Rattle.nl_mounts.proofs.Looking.{back_at}
 use Rattle.nl_mounts.proofs.PortPages.{finds_seen}

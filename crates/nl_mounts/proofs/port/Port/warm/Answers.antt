@@ -2,7 +2,7 @@ use Rattle.std.proofs.Common.{◌≡◌, Err, ap, sym, subst}
 use Rattle.std.specs.Prelude.{is_some}
 use Rattle.nl_types.specs.declared.error.VolError.TheVariants.{BadMount}
 use Rattle.nl_publish.specs.Histories.{Known}
-use Rattle.nl_lanes.specs.Reading.{Looked}
+use Rattle.nl_publish.specs.Reading.{Looked}
 use Rattle.nl_mounts.specs.Ports.{IsUngiven, PortView}
 use Rattle.nl_mounts.specs.Warming.{IsWarmingOf}
 use Rattle.nl_mounts.proofs.port.Port.warm.Goals as goal

@@ -1,7 +1,7 @@
 use Rattle.std.proofs.Common.{inl, ap, ◌∙◌, subst}
 use Rattle.nl_types.specs.declared.event.Change.{Change}
 use Rattle.nl_types.specs.declared.event.Event.TheVariants as event
-use Rattle.nl_calls.specs.Changes.{change_at}
+use Rattle.nl_types.specs.Changes.{change_at}
 use Rattle.nl_mounts.specs.TypedCalls.{HasDone}
 use Rattle.nl_mounts.proofs.Replies.{has_done}
 use Rattle.nl_mounts.proofs.shared.Shared.change_path.Goals as goal

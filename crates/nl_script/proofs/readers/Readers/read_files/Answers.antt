@@ -1,8 +1,8 @@
 use Rattle.std.proofs.Common.{◌∙◌, sym, subst, take, ap, List, ℕ}
 use Rattle.std.specs.List.{position_or_len}
 use Rattle.nl_types.specs.Plain.Worlds.{Reply}
-use Rattle.nl_lanes.specs.Jobs.{AreAnswers}
-use Rattle.nl_lanes.specs.declared.many.ReadJob.{ReadJob}
+use Rattle.nl_publish.specs.Jobs.{AreAnswers}
+use Rattle.nl_publish.specs.declared.many.ReadJob.{ReadJob}
 use Rattle.nl_script.specs.FileReads.{AreFirstFiles, is_bad_mount}
 use Rattle.nl_script.proofs.FilesRead.{first_files}
 use Rattle.nl_script.proofs.readers.Readers.read_files.Goals as goal

@@ -1,5 +1,5 @@
 use Rattle.std.proofs.Common.{ℕ, List, Option, subst, sym}
-use Rattle.nl_space.specs.Images.{pages_of_bytes}
+use Rattle.nl_vstore.specs.Images.{pages_of_bytes}
 use Rattle.nl_segwriter.specs.Images.{AreLogsIn, HoldLogs, page_in}
 use Rattle.nl_segwriter.proofs.ImageSame.{held_of_image, logs_of_pages}
 use Rattle.nl_segwriter.proofs.images.Restored.read.Goals as goal

@@ -3,8 +3,8 @@ use Rattle.std.proofs.Math.ListN.{replicate}
 use Rattle.std.proofs.lemmas.List.{length-replicate}
 use Rattle.nl_types.specs.declared.geometry.Geometry.{Geometry}
 use Rattle.nl_types.specs.Blocks.Segments.{HaveLogs, Segments, clean_info}
-use Rattle.nl_space.specs.Content.{Payload}
-use Rattle.nl_space.specs.Logs.{AreWholeLogs}
+use Rattle.nl_vstore.specs.Content.{Payload}
+use Rattle.nl_vstore.specs.Logs.{AreWholeLogs}
 use Rattle.nl_segwriter.specs.Writing.{space_content, held_in}
 use Rattle.nl_segwriter.specs.Facts.WholeLogs.{whole_new, logs_new, none_held}
 use Rattle.nl_segwriter.proofs.log_space.LogSpace.new.Goals as goal

@@ -5,8 +5,8 @@ use Rattle.nl_types.specs.Blocks.Segments.{HaveLogs, Segments, with_error}
 use Rattle.nl_types.specs.Blocks.Placing.{end_of, first_block, with_log}
 use Rattle.nl_types.specs.Facts.NextLogs.{length-with_log}
 use Rattle.nl_segwriter.specs.declared.staging.Staged.{Staged}
-use Rattle.nl_space.specs.Content.{SpaceContent, Payload, SameOutside, StandInRow, HoldsOnlyUsed}
-use Rattle.nl_space.specs.Logs.{AreWholeLogs}
+use Rattle.nl_vstore.specs.Content.{SpaceContent, Payload, SameOutside, StandInRow, HoldsOnlyUsed}
+use Rattle.nl_vstore.specs.Logs.{AreWholeLogs}
 use Rattle.nl_segwriter.specs.Private.Staging.{whole_of}
 use Rattle.nl_segwriter.specs.Writing.{HasPut, HasTried, held_in, space_content}
 use Rattle.nl_segwriter.specs.Facts.WholeLogs.{whole_with_log, whole_with_error, held_with_log, held_with_error, logs_with_log, logs_with_error, length-with_error}

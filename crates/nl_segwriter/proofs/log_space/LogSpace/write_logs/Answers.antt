@@ -7,9 +7,9 @@ use Rattle.nl_types.specs.Blocks.Placing.{AreNextLogs, IsNextLog, first_block, w
 use Rattle.nl_types.specs.Facts.NextLogs.{tidy_with_log}
 use Rattle.nl_types.specs.Facts.UsedParts.{stays_with_log, stays_with_error}
 use Rattle.nl_device.specs.Failures.{CountsWrites, FailsToWrite, Failures}
-use Rattle.nl_space.specs.Content.{SpaceContent, KeepsUsed, IsSameAt}
-use Rattle.nl_space.specs.Logs.{StandsFrom}
-use Rattle.nl_space.specs.Appended.{IsOutside}
+use Rattle.nl_vstore.specs.Content.{SpaceContent, KeepsUsed, IsSameAt}
+use Rattle.nl_vstore.specs.Logs.{StandsFrom}
+use Rattle.nl_vstore.specs.Appended.{IsOutside}
 use Rattle.nl_segwriter.specs.declared.staging.Staged.{Staged}
 use Rattle.nl_segwriter.specs.Private.Staging.{IsReady, logs_of, whole_of}
 use Rattle.nl_segwriter.specs.Writing.{space_content, LogsStand, BreaksOff}

@@ -3,8 +3,8 @@ use Rattle.std.specs.List.{AllByRecursion}
 use Rattle.std.specs.Vec.Iter.{into_iter_items, into_iter_len}
 use Rattle.nl_types.specs.Blocks.Segments.{StaysUsed, AreTidy}
 use Rattle.nl_types.specs.Blocks.Placing.{AreNextLogs, with_logs}
-use Rattle.nl_space.specs.Content.{SpaceContent, KeepsUsed, IsSameAt}
-use Rattle.nl_space.specs.Appended.{IsOutside}
+use Rattle.nl_vstore.specs.Content.{SpaceContent, KeepsUsed, IsSameAt}
+use Rattle.nl_vstore.specs.Appended.{IsOutside}
 use Rattle.nl_segwriter.specs.Private.Staging.{IsReady, logs_of}
 use Rattle.nl_segwriter.specs.Writing.{space_content, LogsStand, BreaksOff}
 use Rattle.nl_segwriter.proofs.log_space.LogSpace.write_logs.Given as goal

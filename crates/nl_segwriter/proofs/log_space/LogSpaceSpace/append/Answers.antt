@@ -5,11 +5,11 @@ use Rattle.nl_types.specs.declared.segment.Log.{Log}
 use Rattle.nl_types.specs.Blocks.Segments.{Segments, total_blocks}
 use Rattle.nl_types.specs.Blocks.Placing.{AreNextLogs, first_block, addresses}
 use Rattle.nl_types.specs.Facts.NextLogs.{placed}
-use Rattle.nl_space.specs.Content.{SpaceContent}
+use Rattle.nl_vstore.specs.Content.{SpaceContent}
 use Rattle.nl_segwriter.specs.Private.Staging.{AreStaged, AreSized}
 use Rattle.nl_segwriter.specs.Writing.{space_content}
 use Rattle.nl_segwriter.proofs.AppendedLogs.{sized, next_staged, staged_ready, staged_stamps, is_appended, is_broken_off}
-use Rattle.nl_space.specs.Facts.LogNumbers.{logs_inside}
+use Rattle.nl_vstore.specs.FactsOfSpace.LogNumbers.{logs_inside}
 use Rattle.nl_segwriter.proofs.log_space.LogSpaceSpace.append.Goals as goal
 
 pub numbers_of-requires : goal.numbers_of-requires

@@ -2,8 +2,8 @@ use Rattle.std.proofs.Common.{◌≡◌, ℕ, ◌*◌, length, List, Option, ap,
 use Rattle.std.proofs.lemmas.List.{length-set}
 use Rattle.nl_types.specs.declared.geometry.Geometry.{Geometry}
 use Rattle.nl_types.specs.Blocks.Segments.{HaveLogs, Segments, clean_info, with_clean}
-use Rattle.nl_space.specs.Content.{SpaceContent, Payload, HoldsOnlyUsed, IsEmptied, IsFreed}
-use Rattle.nl_space.specs.Logs.{AreWholeLogs}
+use Rattle.nl_vstore.specs.Content.{SpaceContent, Payload, HoldsOnlyUsed, IsEmptied, IsFreed}
+use Rattle.nl_vstore.specs.Logs.{AreWholeLogs}
 use Rattle.nl_segwriter.specs.Writing.{space_content, held_in}
 use Rattle.nl_segwriter.specs.Facts.WholeLogs.{whole_with_clean, logs_with_clean, held_with_clean, is_freed, cleared}
 use Rattle.nl_segwriter.proofs.log_space.LogSpaceSpace.free.Goals as goal

@@ -4,8 +4,8 @@ use Rattle.std.proofs.lemmas.List.{length-append, length-replicate}
 use Rattle.nl_types.specs.declared.geometry.Geometry.{Geometry}
 use Rattle.nl_types.specs.Blocks.Segments.{HaveLogs, Segments, grown_to, total_blocks}
 use Rattle.nl_device.specs.Pages.{DevicePages, KeepsBelow}
-use Rattle.nl_space.specs.Content.{HoldsOnlyUsed, Payload, SpaceContent}
-use Rattle.nl_space.specs.Logs.{AreWholeLogs}
+use Rattle.nl_vstore.specs.Content.{HoldsOnlyUsed, Payload, SpaceContent}
+use Rattle.nl_vstore.specs.Logs.{AreWholeLogs}
 use Rattle.nl_segwriter.specs.Writing.{held_in, space_content}
 use Rattle.nl_segwriter.proofs.GrownSpace.{front, held-behind, held-grown, kept-grown, length-grown, logs-grown, whole-grown}
 use Rattle.nl_segwriter.proofs.log_space.LogSpaceSpace.grow.Goals as goal

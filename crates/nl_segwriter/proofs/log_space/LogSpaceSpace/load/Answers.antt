@@ -6,8 +6,8 @@ use Rattle.nl_types.specs.declared.error.VolError.TheVariants as error
 use Rattle.nl_device.specs.declared.device.DeviceError.{DeviceError}
 use Rattle.nl_device.specs.declared.device.DeviceError.TheVariants as device
 use Rattle.nl_device.specs.Pages.{DevicePages}
-use Rattle.nl_space.specs.Appended.{IsLoadError}
-use Rattle.nl_space.specs.Logs.{AreWholeLogs}
+use Rattle.nl_vstore.specs.Appended.{IsLoadError}
+use Rattle.nl_vstore.specs.Logs.{AreWholeLogs}
 use Rattle.nl_segwriter.specs.Writing.{refusal_of, space_content}
 use Rattle.nl_segwriter.specs.Facts.WholeLogs.{used_stored}
 use Rattle.nl_segwriter.proofs.log_space.LogSpaceSpace.load.Goals as goal

@@ -2,7 +2,7 @@ use Rattle.std.proofs.Common.{◌≡◌, ◌+◌, ◌-◌, ◌*◌, ◌<◌, ◌
 use Rattle.std.proofs.lemmas.List.{get_or-drop, get_or-take, length-drop, length-take-le}
 use Rattle.std.proofs.lemmas.Option.{slice_get-get_or}
 use Rattle.nl_types.specs.Blocks.Segments.{Segments, AreTidy, info_of}
-use Rattle.nl_space.specs.Content.{IsRowOf, Payload}
+use Rattle.nl_vstore.specs.Content.{IsRowOf, Payload}
 use Rattle.nl_segwriter.specs.Writing.{held_in}
 use Rattle.nl_segwriter.proofs.ImagePayload.{part_inside}
 use Rattle.nl_segwriter.proofs.log_space.LogSpaceSpace.summary.Goals as goal

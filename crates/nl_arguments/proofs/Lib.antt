@@ -1,4 +1,0 @@
-mod Deciding
-mod ExampleWords
-mod OneFault
-mod Requests

@@ -1,4 +1,0 @@
-pub mod Meanings
-pub mod NumberWords
-pub mod Options
-pub mod Statuses

@@ -1,4 +1,0 @@
-use Rattle.nl_calls.proofs.answers.without_answer.Goals as goal
-
-pub returns : goal.returns
-returns c = (c.in_ok-reply.field-0, c.in_ok-reply.was)

@@ -1,3 +1,0 @@
-mod Comments
-mod ConfigurationLaws
-mod Numerals

@@ -1,5 +1,0 @@
-use Rattle.nl_config.proofs.Numerals.{none_read}
-use Rattle.nl_config.proofs.setting.number.Goals as goal
-
-pub returns-in-Err : goal.returns-in-Err
-returns-in-Err c = none_read c.args.word.now c.in-Err.ensures.cases.0

@@ -1,2 +1,0 @@
-pub mod Configuration
-pub mod Laws

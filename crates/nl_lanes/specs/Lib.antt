@@ -1,3 +1,0 @@
-pub mod Reading
-pub mod Jobs
-pub mod Facts

@@ -1,0 +1,16 @@
+use Rattle.std.proofs.Common.{◌≤◌, List}
+use Rattle.nl_types.specs.Blocks.Entries.{is_needed}
+use Rattle.nl_vstore.specs.Located.{needs}
+use Rattle.nl_vstore.specs.Stores.{content_in}
+use Rattle.nl_reclaim.specs.declared.ends.Ended.{Ended}
+use Rattle.nl_reclaim.specs.PrivateCounts.Listed.{AreListed, HasLetGoAll}
+use Rattle.nl_reclaim.proofs.letting_go.take_run_off.Given as goal
+
+abbrev pub invariant-loop-index : goal.invariant-loop-index
+invariant-loop-index g l = record {
+  low : l.from ≤ l.index;
+  high : l.index ≤ l.to;
+  left : (left : List Ended) × AreListed (g.V.Vstore.store l.store) l.counts left
+      × HasLetGoAll (needs (is_needed (g.K.Keeping.kept l.keeping)) (content_in (g.V.Vstore.store l.store)))
+      l.from l.index l.ends.ended left;
+}

@@ -1,4 +1,0 @@
-pub mod Kept
-pub mod Last
-pub mod Going
-pub mod Order

@@ -1,2 +1,0 @@
-pub mod Retention
-pub mod Counts

@@ -1,9 +1,0 @@
-pub mod Saves
-pub mod SharedWorlds
-pub mod SharedWorldsMounts
-pub mod SharedWorldsRuns
-pub mod SharedWorldsEvents
-pub mod SavedVolumes
-pub mod Starts
-pub mod SessionWorlds
-pub mod CleanedVolumes

@@ -1,5 +1,0 @@
-use Rattle.nl_session.proofs.SavedVolumes.{runs_come_back}
-use Rattle.nl_session.proofs.laws.saved_runs_come_back.Goals as goal
-
-pub returns : goal.returns
-returns c = runs_come_back c.saved_volumes_come_back.ensures

@@ -1,4 +1,0 @@
-use Rattle.nl_session.proofs.sessions.run_begun.Given as goal
-
-abbrev pub ghosts-run_script : goal.ghosts-run_script
-ghosts-run_script g a = record { book = λ id. a.opened.seen.book }

@@ -1,3 +1,0 @@
-pub mod SharedReads
-pub mod SharedRounds
-pub mod SharedEvents
