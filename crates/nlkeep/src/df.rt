@@ -1,6 +1,5 @@
 //! `df`: how many blocks of a volume are clean, needed and dead, and how many the next backup can write.
 use crate::asking::Outcome;
-use crate::capacity::Capacity;
 use crate::faults::{Fault, volume_fault};
 use crate::json::object;
 use crate::printing::Printer;
@@ -8,6 +7,7 @@ use crate::sizes::size_shown;
 use clap::ArgMatches;
 use nl_core::Pen;
 use nl_device::MemDevice;
+use nl_room::Capacity;
 use nl_types::{BLOCK_SIZE, Segment, SegmentState, VolError};
 use serde::Serialize;
 use std::alloc::Global;

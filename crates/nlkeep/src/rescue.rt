@@ -2,31 +2,52 @@
 use crate::asking::{Outcome, word};
 use crate::faults::{Fault, fault_at, system_fault, volume_fault};
 use crate::images::read_image;
-use crate::pages::ImagePages;
 use crate::printing::{Printer, tell_left_out, tell_paths_left_out, tell_refused};
 use crate::restore::put_all;
-use crate::ruins::Ruin;
-use crate::sections::Sections;
 use clap::ArgMatches;
+use nl_damage::{ImagePages, Ruin, Sections};
 use nl_folders::Path;
+use nl_host::Reason;
 use nl_layout::CheckpointEntry;
-use nl_manifests::{Opened, open};
+use nl_manifests::{LineFault, Opened, open};
 use nl_types::{CheckpointNumber, Items, VolError};
 use std::alloc::{AllocError, Global};
 use std::fs;
 use std::io::Write;
 
-/// Paths of a checkpoint, each with what is told of it, below the folder of all of them.
-fn below_number<T: Copy>(
+/// A path of a checkpoint, below the folder of all of them.
+fn below_number(
     alloc: Global,
     number: CheckpointNumber,
-    told: Vec<(Path, T)>,
-) -> Result<Vec<(Path, T)>, AllocError> {
-    let mut below = Vec::with_capacity(alloc, told.len())?;
-    for (mut path, why) in told {
-        let name = format!(in alloc; "{}", number.get())?;
-        path.push_front(Items::from_slice(alloc, name.as_bytes())?)?;
-        below.push((path, why))?;
+    mut path: Path,
+) -> Result<Path, AllocError> {
+    let name = format!(in alloc; "{}", number.get())?;
+    path.push_front(Items::from_slice(alloc, name.as_bytes())?)?;
+    Ok(path)
+}
+
+/// What of a checkpoint is lost, as it is told.
+fn lost_below(
+    alloc: Global,
+    number: CheckpointNumber,
+    lost: Vec<Path>,
+) -> Result<Vec<(Path, Reason)>, AllocError> {
+    let mut below = Vec::with_capacity(alloc, lost.len())?;
+    for path in lost {
+        below.push((below_number(alloc, number, path)?, Reason::Unread))?;
+    }
+    Ok(below)
+}
+
+/// What of a checkpoint is refused, as it is told.
+fn refused_below(
+    alloc: Global,
+    number: CheckpointNumber,
+    refused: Vec<(Path, LineFault)>,
+) -> Result<Vec<(Path, LineFault)>, AllocError> {
+    let mut below = Vec::with_capacity(alloc, refused.len())?;
+    for (path, fault) in refused {
+        below.push((below_number(alloc, number, path)?, fault))?;
     }
     Ok(below)
 }
@@ -51,10 +72,10 @@ impl Rescuing<'_> {
         if ruin.tree.is_empty() {
             return Ok(None);
         }
-        let lost = below_number(alloc, entry.number, ruin.lost)?;
+        let lost = lost_below(alloc, entry.number, ruin.lost)?;
         tell_paths_left_out(self.rt, lost.as_slice());
         let Opened { tree, refused } = open(alloc, ruin.tree.as_slice())?;
-        let refused = below_number(alloc, entry.number, refused.into_vec())?;
+        let refused = refused_below(alloc, entry.number, refused.into_vec())?;
         let refused = Items::from_vec(refused);
         Ok(Some((Opened { tree, refused }, lost.is_empty())))
     }
@@ -145,7 +166,7 @@ pub fn rescue<W: Write>(
         folder,
     };
     let is_whole = rescuing.all(path, &sections, printer)?;
-    let missing = sections.length.saturating_sub(image.len());
+    let missing = sections.places.end.saturating_sub(image.len());
     if missing > 0 {
         let _ = eprintln!(rt; "nlkeep: left out: {path}: the last {missing} bytes are not there");
     }

@@ -1,8 +1,8 @@
 //! The sum of an image, in a file beside it.
 use crate::asking::Outcome;
 use crate::faults::Fault;
-use crate::sections::Sections;
 use nl_core::geometry_of;
+use nl_damage::Sections;
 use nl_saving::{FileFault, InUse, SavePlace, Saved, read_file};
 use nl_sums::{Comparison, Kept, Sum, compare, printed, read_sum};
 use nl_types::{BLOCK_SIZE, Items};

@@ -1,13 +1,10 @@
 //! What `check` tells, by objects of JSON.
 use crate::checking::{Judgement, Told, condition, differing};
-use crate::culprits::Culprit;
 use crate::faults::Fault;
 use crate::json::{object, path_text};
-use crate::later::Finding;
-use crate::leading::path_of;
-use crate::places::Place;
 use crate::printing::Printer;
 use crate::sums::{Summed, kept_in};
+use nl_damage::{Culprit, Finding, Place, path_of};
 use nl_sums::Comparison;
 use nl_types::CheckpointNumber;
 use serde::Serialize;

@@ -1,0 +1,22 @@
+//! What a damaged image tells: where it fails a condition, which of the later ones hold, and the trees of its
+//! checkpoints, as far as they can be read.
+#![tactic(auto)]
+
+mod culprits;
+mod later;
+mod leading;
+mod pages;
+mod places;
+mod ruins;
+mod searching;
+mod sections;
+mod tables;
+mod unsound;
+
+pub use culprits::Culprit;
+pub use later::{Finding, Judged};
+pub use leading::path_of;
+pub use pages::ImagePages;
+pub use places::{Place, place_of};
+pub use ruins::Ruin;
+pub use sections::{Places, Sections};
