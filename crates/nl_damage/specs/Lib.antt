@@ -3,3 +3,7 @@ pub mod Pages
 pub mod Judging
 pub mod Paths
 pub mod Places
+pub mod ImageSums
+pub mod SumTexts
+pub mod SumComparing
+pub mod Private

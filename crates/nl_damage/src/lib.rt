@@ -10,6 +10,7 @@ mod places;
 mod ruins;
 mod searching;
 mod sections;
+pub mod sums;
 mod tables;
 mod unsound;
 

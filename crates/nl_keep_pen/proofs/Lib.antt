@@ -6,3 +6,4 @@ pub mod PinlessTrees
 pub mod FilledTrees
 pub mod Changes
 pub mod ChangeLists
+mod RoundSteps

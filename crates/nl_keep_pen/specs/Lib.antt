@@ -4,5 +4,6 @@ pub mod History
 pub mod Images
 pub mod Runs
 pub mod UnreadTrees
+pub mod Capacities
 -- for proofs of other crates
 pub mod Facts

@@ -7,8 +7,8 @@ use Rattle.nl_types.specs.declared.event.Event.{Event}
 use Rattle.nl_commands.specs.declared.command.Command.{Command}
 use Rattle.nl_commands.specs.declared.command.Command.TheVariants.{Catm, Lssu}
 use Rattle.nl_commit.specs.Layout.{Layout}
-use Rattle.nl_texts.specs.Facts.Appending.{OnOk-same}
-use Rattle.nl_texts.specs.Texts.{Text}
+use Rattle.nl_script.specs.Facts.Appending.{OnOk-same}
+use Rattle.nl_script.specs.Texts.{Text}
 use Rattle.nl_script.specs.ExitStatus.{status_of}
 use Rattle.nl_protect.specs.declared.config.Config.{Config}
 use Rattle.nl_script.specs.Habits.{Habits}

@@ -7,15 +7,15 @@ use Rattle.std.specs.Io.BufRead.{first_piece, drop_through, DropsThrough}
 use Rattle.std.specs.Io.KnownBytes.{Appends, IsAtEnd}
 use Rattle.std.specs.List.{list_any, flat_map}
 use Rattle.std.specs.Prelude.{◌||◌, ◌-◌, ◌^◌}
-use Rattle.nl_texts.specs.Texts.{Text}
-use Rattle.nl_texts.specs.declared.streams.StandardStream.{StandardStream}
-use Rattle.nl_texts.specs.declared.streams.StandardStream.TheVariants as stream
+use Rattle.nl_script.specs.Texts.{Text}
+use Rattle.nl_script.specs.declared.texts.streams.StandardStream.{StandardStream}
+use Rattle.nl_script.specs.declared.texts.streams.StandardStream.TheVariants as stream
 use Rattle.nl_protect.specs.declared.config.Config.{Config}
 use Rattle.nl_script.specs.Habits.{Habits}
 use Rattle.nl_script.specs.Lines.{IsLineAnswered, LineEnd}
 use Rattle.nl_script.specs.Scripts.{AreLinesDone, AreWritten, BeginsSo, BeginsWithLines, IsRunSoFar, IsScriptDone, ends_misread, ends_refused, last_moment, number_behind, text_of_line, texts_of}
 use Rattle.nl_script.specs.Private.Turns.{HasDoneLine, HasNoLine, HasStopped, IsNextLine}
-use Rattle.nl_texts.specs.declared.ends.Done.{Done}
+use Rattle.nl_script.specs.declared.texts.ends.Done.{Done}
 use Rattle.nl_script.proofs.ScriptLines.{AreLinesDone-more, BeginsWithLines-more, last_moment-more}
 
 or-false : (b : Bool) → (b || false) ≡ b

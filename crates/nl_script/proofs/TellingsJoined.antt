@@ -1,8 +1,8 @@
 -- Outcomes are told of behind others.
 use Rattle.std.proofs.Common.{◌≡◌, ◌∙◌, ◌++◌, ap, sym, subst, append_assoc, List, ℕ, Bool, Option, Result, Ok, Err}
 use Rattle.std.specs.Prelude.{◌||◌, filter}
-use Rattle.nl_texts.specs.Facts.Appending.{OnOk-then}
-use Rattle.nl_texts.specs.Texts.{Text}
+use Rattle.nl_script.specs.Facts.Appending.{OnOk-then}
+use Rattle.nl_script.specs.Texts.{Text}
 use Rattle.nl_script.specs.ExitStatus.{has_refusal}
 use Rattle.nl_script.specs.Outcomes.{LineOutcome, is_told}
 use Rattle.nl_script.specs.Private.Tellings.{HasTold, HasToldFirst, WritesOn}

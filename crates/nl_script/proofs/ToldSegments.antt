@@ -7,7 +7,7 @@ use Rattle.std.specs.Prelude.{slice_get}
 use Rattle.nl_types.specs.declared.error.VolError.{VolError}
 use Rattle.nl_types.specs.declared.error.VolError.TheVariants.{BadRange}
 use Rattle.nl_types.specs.declared.segment.SegmentInfo.{SegmentInfo}
-use Rattle.nl_texts.specs.declared.segments.SegmentRow.{SegmentRow}
+use Rattle.nl_script.specs.declared.texts.segments.SegmentRow.{SegmentRow}
 use Rattle.nl_vstore.specs.Located.{needed_count}
 use Rattle.nl_commit.specs.CleanerViews.{needed_told}
 use Rattle.nl_commit.specs.CleaningEvents.{needed_by}

@@ -1,2 +1,3 @@
 -- Facts about the definitions, for proofs of other crates.
 pub mod Simulations
+pub mod Appending

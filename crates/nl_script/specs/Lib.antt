@@ -9,5 +9,12 @@ pub mod Lines
 pub mod Scripts
 pub mod Configurations
 pub mod Simulations
+pub mod Texts
+pub mod CheckpointLines
+pub mod SegmentLines
+pub mod RefusalTexts
+pub mod AnswerTexts
+pub mod StreamTexts
+pub mod Ends
 pub mod Facts
 pub mod Private

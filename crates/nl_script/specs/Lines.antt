@@ -18,10 +18,10 @@ use Rattle.nl_cpfile.specs.Tables.{cpstat_of}
 use Rattle.nl_vstore.specs.Located.{needed_count}
 use Rattle.nl_commit.specs.CleaningEvents.{needed_by}
 use Rattle.nl_commit.specs.Layout.{Layout}
-use Rattle.nl_texts.specs.RefusalTexts.{refusal_text, usage_text}
-use Rattle.nl_texts.specs.SegmentLines.{seg_header, seg_texts}
-use Rattle.nl_texts.specs.Texts.{Text}
-use Rattle.nl_texts.specs.declared.segments.SegmentRow.{SegmentRow}
+use Rattle.nl_script.specs.RefusalTexts.{refusal_text, usage_text}
+use Rattle.nl_script.specs.SegmentLines.{seg_header, seg_texts}
+use Rattle.nl_script.specs.Texts.{Text}
+use Rattle.nl_script.specs.declared.texts.segments.SegmentRow.{SegmentRow}
 use Rattle.nl_script.specs.Events.{events_of, reading}
 use Rattle.nl_script.specs.FileReads.{is_bad_mount}
 use Rattle.nl_protect.specs.declared.config.Config.{Config}

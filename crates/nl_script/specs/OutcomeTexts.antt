@@ -4,10 +4,10 @@ use Rattle.nl_types.specs.Plain.Worlds.{Reply}
 use Rattle.nl_types.specs.declared.event.Event.{Event}
 use Rattle.nl_types.specs.declared.reply.Answer.{Answer}
 use Rattle.nl_types.specs.declared.reply.Answer.TheVariants as answer
-use Rattle.nl_texts.specs.AnswerTexts.{number_text, content_text, stat_text, name_texts}
-use Rattle.nl_texts.specs.CheckpointLines.{cp_header, cp_texts}
-use Rattle.nl_texts.specs.RefusalTexts.{refusal_text}
-use Rattle.nl_texts.specs.Texts.{Text}
+use Rattle.nl_script.specs.AnswerTexts.{number_text, content_text, stat_text, name_texts}
+use Rattle.nl_script.specs.CheckpointLines.{cp_header, cp_texts}
+use Rattle.nl_script.specs.RefusalTexts.{refusal_text}
+use Rattle.nl_script.specs.Texts.{Text}
 use Rattle.nl_script.specs.Outcomes.{LineOutcome, Answered, Refused, is_told, outcomes_of}
 
 -- that a change is done prints nothing

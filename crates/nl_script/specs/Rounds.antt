@@ -5,9 +5,9 @@ use Rattle.nl_types.specs.declared.error.VolError.{VolError}
 use Rattle.nl_types.specs.declared.reply.Answer.{Answer}
 use Rattle.nl_types.specs.declared.reply.Answer.TheVariants.{Expired, Moved, Freed}
 use Rattle.nl_commit.specs.Rounds.{ends_round}
-use Rattle.nl_texts.specs.AnswerTexts.{clean_text}
-use Rattle.nl_texts.specs.RefusalTexts.{refusal_text}
-use Rattle.nl_texts.specs.Texts.{Text}
+use Rattle.nl_script.specs.AnswerTexts.{clean_text}
+use Rattle.nl_script.specs.RefusalTexts.{refusal_text}
+use Rattle.nl_script.specs.Texts.{Text}
 use Rattle.nl_script.specs.declared.rounds.RoundSum.{RoundSum}
 
 -- ---- what a round comes to

@@ -4,13 +4,13 @@ use Rattle.std.specs.Io.BufRead.{first_piece, drop_through}
 use Rattle.std.specs.Io.KnownBytes.{Appends}
 use Rattle.std.specs.List.{list_any, flat_map}
 use Rattle.nl_types.specs.Plain.Characters.{line_feed}
-use Rattle.nl_texts.specs.Texts.{Text}
-use Rattle.nl_texts.specs.declared.streams.StandardStream.{StandardStream}
-use Rattle.nl_texts.specs.declared.streams.StandardStream.TheVariants.{Input, Output}
+use Rattle.nl_script.specs.Texts.{Text}
+use Rattle.nl_script.specs.declared.texts.streams.StandardStream.{StandardStream}
+use Rattle.nl_script.specs.declared.texts.streams.StandardStream.TheVariants.{Input, Output}
 use Rattle.nl_protect.specs.declared.config.Config.{Config}
 use Rattle.nl_script.specs.Habits.{Habits}
 use Rattle.nl_script.specs.Lines.{IsLineAnswered, LineEnd}
-use Rattle.nl_texts.specs.declared.ends.Done.{Done}
+use Rattle.nl_script.specs.declared.texts.ends.Done.{Done}
 use Rattle.nl_script.specs.declared.status.Status.{Status}
 use Rattle.nl_script.specs.declared.status.Status.TheVariants.{Refused, Misread}
 

@@ -16,6 +16,7 @@ mod running;
 mod scripts;
 mod status;
 mod telling;
+pub mod texts;
 mod volume;
 
 pub use configurations::configuration;

@@ -3,9 +3,9 @@ ghost use Rattle.std.specs.Prelude.{◌≡◌, OnOk};
 ghost use Rattle.std.specs.Io.KnownBytes.{Appends};
 ghost use Rattle.nl_script.specs.Rounds.{IsRoundOver, nothing_done, plus, round_text, with_answer, with_refusal, with_reply};
 
+use crate::texts;
 use crate::volume::Volume;
 use nl_commit::ends_round;
-use nl_texts as texts;
 use nl_types::{Answer, Reply, VolError};
 use std::io;
 use std::io::Write;

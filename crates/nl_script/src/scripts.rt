@@ -1,7 +1,7 @@
 //! A script on a volume: its lines, one after another.
 ghost use Rattle.std.specs.Prelude.{◌≡◌, ◌⊎◌, ◌||◌, None, Some, if◌then◌else◌, OnOk};
 ghost use Rattle.std.specs.Io.KnownBytes.{Appends};
-ghost use Rattle.nl_texts.specs.RefusalTexts.{refusal_text};
+ghost use Rattle.nl_script.specs.RefusalTexts.{refusal_text};
 ghost use Rattle.nl_script.specs.Lines.{ComesTo, IsLineDone, LineEnd, refused};
 ghost use Rattle.nl_script.specs.Scripts.{IsScriptDone, is_misread_status, is_refused_status};
 ghost use Rattle.nl_script.specs.Private.Turns.{HasDoneLine, HasStopped, IsCounted};
@@ -9,9 +9,9 @@ ghost use Rattle.nl_script.specs.Private.Turns.{HasDoneLine, HasStopped, IsCount
 use crate::reading::{Next, next_line};
 use crate::runner::Runner;
 use crate::status::{LineResult, Status};
+use crate::texts::{self, Done, StandardStream};
 use crate::volume::Volume;
 use nl_publish::FileReader;
-use nl_texts::{self as texts, Done, StandardStream};
 use nl_types::VolError;
 use std::io;
 use std::io::{BufRead, Write};

@@ -1,14 +1,14 @@
 //! What is told of events and their replies. One pass tells of them, and counts the refusals.
 ghost use Rattle.std.specs.Prelude.{◌≡◌, ◌∷◌, [], ◌++◌, ◌&&◌, map, length, OnOk};
 ghost use Rattle.std.specs.Io.KnownBytes.{Appends};
-ghost use Rattle.nl_texts.specs.CheckpointLines.{cp_header, cp_texts};
+ghost use Rattle.nl_script.specs.CheckpointLines.{cp_header, cp_texts};
 ghost use Rattle.nl_script.specs.Outcomes.{Refused, all_outcomes, event_outcomes, may_be_left_out, outcome, range_outcomes, stays_outcome};
 ghost use Rattle.nl_script.specs.OutcomeTexts.{answer_text, text_of};
 ghost use Rattle.nl_script.specs.ExitStatus.{status_if_refused, status_of};
 ghost use Rattle.nl_script.specs.Private.Tellings.{HasTold};
 
 use crate::status::{LineResult, Status};
-use nl_texts as texts;
+use crate::texts;
 use nl_types::{Answer, Event, Reply, Row, Stays, VolError};
 use std::io;
 use std::io::Write;

@@ -7,7 +7,7 @@ use crate::sizes::size_shown;
 use clap::ArgMatches;
 use nl_core::Pen;
 use nl_device::MemDevice;
-use nl_room::Capacity;
+use nl_keep_pen::Capacity;
 use nl_types::{BLOCK_SIZE, Segment, SegmentState, VolError};
 use serde::Serialize;
 use std::alloc::Global;

@@ -4,7 +4,7 @@ use Rattle.nl_types.specs.declared.error.VolError.{VolError}
 use Rattle.nl_types.specs.declared.error.VolError.TheVariants.{Memory}
 use Rattle.nl_commit.specs.Layout.{Layout}
 use Rattle.nl_commands.specs.declared.arguments.Arguments.{Arguments}
-use Rattle.nl_texts.specs.declared.refusals.StartStep.TheVariants as step
+use Rattle.nl_script.specs.declared.texts.refusals.StartStep.TheVariants as step
 use Rattle.nlvol.specs.Beginnings.{AsksToBegin, Beginning, IsBegunBy, IsGeometryJudged, IsStartFault, Kept, New}
 use Rattle.nlvol.specs.declared.starting.StartFault.TheVariants.{Refused}
 

@@ -13,8 +13,8 @@ use Rattle.nl_commit.specs.Layout.{IsFormatted, IsPen, Layout, MeansWorld}
 use Rattle.nl_core.specs.Opened.{IsAtRest}
 use Rattle.nl_core.specs.PenImages.{IsPenImage}
 use Rattle.nl_commands.specs.declared.arguments.Arguments.{Arguments}
-use Rattle.nl_texts.specs.declared.refusals.StartStep.{StartStep}
-use Rattle.nl_texts.specs.declared.refusals.StartStep.TheVariants as step
+use Rattle.nl_script.specs.declared.texts.refusals.StartStep.{StartStep}
+use Rattle.nl_script.specs.declared.texts.refusals.StartStep.TheVariants as step
 use Rattle.nl_saving.specs.declared.files.FileFault.{FileFault}
 use Rattle.nl_saving.specs.declared.files.FileFault.TheVariants as file
 use Rattle.nl_saving.specs.declared.saving.SavePlace.{SavePlace}

@@ -7,10 +7,10 @@ use Rattle.nl_types.specs.declared.event.Mode.TheVariants.{Plain}
 use Rattle.nl_types.specs.declared.reply.Answer.{Answer}
 use Rattle.nl_commit.specs.Layout.{Does, IsPen, Layout, unshared}
 use Rattle.nl_core.specs.PenImages.{CanBeClosed, IsPenImage}
-use Rattle.nl_texts.specs.Ends.{exit_status}
-use Rattle.nl_texts.specs.declared.ends.Done.{Done}
-use Rattle.nl_texts.specs.RefusalTexts.{changed_text, save_text, unwritten_text}
-use Rattle.nl_texts.specs.Texts.{Text}
+use Rattle.nl_script.specs.Ends.{exit_status}
+use Rattle.nl_script.specs.declared.texts.ends.Done.{Done}
+use Rattle.nl_script.specs.RefusalTexts.{changed_text, save_text, unwritten_text}
+use Rattle.nl_script.specs.Texts.{Text}
 use Rattle.nlvol.specs.Telling.{Errors, Tells, failure_text}
 use Rattle.nlvol.specs.declared.ending.SaveFault.{SaveFault}
 use Rattle.nlvol.specs.declared.ending.SaveFault.TheVariants as fault

@@ -14,7 +14,7 @@ use Rattle.nl_commit.specs.Notes.{shared}
 use Rattle.nl_cleaner.specs.Job.{JobView, job_after_reply, next_event}
 use Rattle.nl_cleaner.specs.Rounds.{cleaning_habits}
 use Rattle.nl_publish.specs.Locks.{as_replies, given_back, mount_reply}
-use Rattle.nl_texts.specs.declared.ends.Done.{Done}
+use Rattle.nl_script.specs.declared.texts.ends.Done.{Done}
 use Rattle.nl_script.specs.Habits.{Habits}
 use Rattle.nl_script.specs.Lines.{LineEnd}
 use Rattle.nl_script.specs.Scripts.{AreLinesDone, IsScriptDone}

@@ -8,15 +8,15 @@ use Rattle.nl_commands.specs.declared.asked.Asked.{Asked}
 use Rattle.nl_commands.specs.declared.asked.Asked.TheVariants.{Run, Help, Version}
 use Rattle.nl_commands.specs.declared.asked.ArgumentsFault.{ArgumentsFault}
 use Rattle.nl_types.specs.declared.error.VolError.TheVariants.{Memory}
-use Rattle.nl_texts.specs.RefusalTexts.{start_text}
-use Rattle.nl_texts.specs.StreamTexts.{stream_text}
-use Rattle.nl_texts.specs.declared.refusals.StartStep.TheVariants.{Start}
-use Rattle.nl_texts.specs.Texts.{Text}
-use Rattle.nl_texts.specs.declared.streams.StandardStream.TheVariants.{Output}
+use Rattle.nl_script.specs.RefusalTexts.{start_text}
+use Rattle.nl_script.specs.StreamTexts.{stream_text}
+use Rattle.nl_script.specs.declared.texts.refusals.StartStep.TheVariants.{Start}
+use Rattle.nl_script.specs.Texts.{Text}
+use Rattle.nl_script.specs.declared.texts.streams.StandardStream.TheVariants.{Output}
 use Rattle.nl_protect.specs.declared.config.Config.{Config}
 use Rattle.nl_script.specs.Configurations.{ConfigurationRead, IsConfigured}
 use Rattle.nl_script.specs.Scripts.{IsScriptDone}
-use Rattle.nl_texts.specs.declared.ends.Done.{Done}
+use Rattle.nl_script.specs.declared.texts.ends.Done.{Done}
 use Rattle.nl_commit.specs.Layout.{Layout, layout_of}
 use Rattle.nl_commit.specs.Volume.{without_mounts}
 use Rattle.nl_cleaner.specs.Rounds.{cleaning_habits}

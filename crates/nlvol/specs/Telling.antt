@@ -6,12 +6,12 @@ use Rattle.nl_types.specs.declared.error.VolError.TheVariants as error
 use Rattle.nl_commands.specs.declared.arguments.Arguments.{Arguments}
 use Rattle.nl_commands.specs.declared.asked.ArgumentsFault.{ArgumentsFault}
 use Rattle.nl_commands.specs.declared.asked.ArgumentsFault.TheVariants as words
-use Rattle.nl_texts.specs.RefusalTexts.{in_use_text, start_text, unread_text}
-use Rattle.nl_texts.specs.StreamTexts.{notice_text, stream_text}
-use Rattle.nl_texts.specs.Texts.{Text}
-use Rattle.nl_texts.specs.declared.refusals.StartStep.{StartStep}
-use Rattle.nl_texts.specs.declared.refusals.StartStep.TheVariants as step
-use Rattle.nl_texts.specs.declared.streams.StandardStream.{StandardStream}
+use Rattle.nl_script.specs.RefusalTexts.{in_use_text, start_text, unread_text}
+use Rattle.nl_script.specs.StreamTexts.{notice_text, stream_text}
+use Rattle.nl_script.specs.Texts.{Text}
+use Rattle.nl_script.specs.declared.texts.refusals.StartStep.{StartStep}
+use Rattle.nl_script.specs.declared.texts.refusals.StartStep.TheVariants as step
+use Rattle.nl_script.specs.declared.texts.streams.StandardStream.{StandardStream}
 use Rattle.nl_saving.specs.declared.files.FileFault.{FileFault}
 use Rattle.nl_saving.specs.declared.files.FileFault.TheVariants as file
 use Rattle.nlvol.specs.declared.starting.StartFault.{StartFault}

@@ -1,11 +1,11 @@
 //! How a session ends behind its script: where that is asked for, the volume's image is saved.
 ghost use Rattle.std.specs.Prelude.{◌≡◌, IfErr, IfOk, IsOk, List, [], ℕ};
-ghost use Rattle.nl_texts.specs.Ends.{exit_status};
+ghost use Rattle.nl_script.specs.Ends.{exit_status};
 ghost use Rattle.nlvol.specs.Beginnings.{place_path};
 ghost use Rattle.nl_commit.specs.Layout.{Does, Layout, unshared};
 ghost use Rattle.nl_types.specs.declared.event.Event.TheVariants as event;
 ghost use Rattle.nl_types.specs.declared.event.Mode.TheVariants as mode;
-ghost use Rattle.nl_texts.specs.Texts.{Text};
+ghost use Rattle.nl_script.specs.Texts.{Text};
 ghost use Rattle.nlvol.specs.Endings as endings;
 ghost use Rattle.nlvol.specs.Endings.{IsSaveFault, IsSaveRefused, IsSettled, IsTextOf, IsUnsettled, SavesFrom, TellsEnd};
 ghost use Rattle.nlvol.specs.Telling.{Tells, TellsMore, errors_of};
@@ -14,7 +14,7 @@ use crate::telling::{SessionEnd, tell_stream};
 use nl_core::Pen;
 use nl_device::Device;
 use nl_saving::{SavePlace, Saved};
-use nl_texts::{Done, changed_text, save_text, unwritten_text};
+use nl_script::texts::{Done, changed_text, save_text, unwritten_text};
 use nl_types::{Event, Mode, Reply, VolError};
 use std::fs::File;
 use std::io;

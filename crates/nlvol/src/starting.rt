@@ -8,7 +8,7 @@ use nl_commands::Arguments;
 use nl_core::{Pen, geometry_of, open};
 use nl_device::MemDevice;
 use nl_saving::{FileFault, InUse, SavePlace, read_file};
-use nl_texts::StartStep;
+use nl_script::texts::StartStep;
 use nl_types::{Geometry, VolError};
 use std::alloc::Global;
 use std::fs::File;

@@ -1,14 +1,14 @@
 //! What a session tells on the stream of errors. Where that stream fails, the status still says that
 //! something was refused.
 ghost use Rattle.std.specs.Prelude.{◌≡◌, None, option_map, true};
-ghost use Rattle.nl_texts.specs.RefusalTexts.{start_text};
-ghost use Rattle.nl_texts.specs.StreamTexts.{stream_text};
+ghost use Rattle.nl_script.specs.RefusalTexts.{start_text};
+ghost use Rattle.nl_script.specs.StreamTexts.{stream_text};
 ghost use Rattle.nlvol.specs.Telling.{IsNoticed, Tells, configuration_step, configuration_text, errors_of, failure_text, fault_text, notice, path_given, words_text};
 
 use crate::starting::StartFault;
 use nl_commands::{Arguments, ArgumentsFault};
 use nl_saving::FileFault;
-use nl_texts::{
+use nl_script::texts::{
     StandardStream, StartStep, in_use_text, notice_text, start_text, stream_text, unread_text,
 };
 use nl_types::{Items, VolError};

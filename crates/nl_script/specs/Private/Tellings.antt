@@ -1,7 +1,7 @@
 -- What is told of outcomes, behind what was told before them.
 use Rattle.std.specs.Prelude.{◌≡◌, ◌||◌, ℕ, Bool, List, ◌++◌, filter, Option, Result, Ok, Err, OnOk}
 use Rattle.std.specs.Io.KnownBytes.{Appends}
-use Rattle.nl_texts.specs.Texts.{Text}
+use Rattle.nl_script.specs.Texts.{Text}
 use Rattle.nl_script.specs.ExitStatus.{has_refusal}
 use Rattle.nl_script.specs.Outcomes.{LineOutcome, is_told}
 use Rattle.nl_script.specs.OutcomeTexts.{told_text}

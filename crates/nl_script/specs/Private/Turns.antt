@@ -3,15 +3,15 @@ use Rattle.std.specs.Prelude.{◌≡◌, ◌⊎◌, ◌<◌, ◌||◌, if◌then
 use Rattle.std.specs.Io.BufRead.{first_piece, DropsThrough}
 use Rattle.std.specs.Io.KnownBytes.{Appends, IsAtEnd}
 use Rattle.nl_types.specs.Plain.Characters.{line_feed}
-use Rattle.nl_texts.specs.Texts.{Text}
-use Rattle.nl_texts.specs.declared.streams.StandardStream.TheVariants as stream
+use Rattle.nl_script.specs.Texts.{Text}
+use Rattle.nl_script.specs.declared.texts.streams.StandardStream.TheVariants as stream
 use Rattle.nl_protect.specs.declared.config.Config.{Config}
 use Rattle.nl_script.specs.Habits.{Habits}
 use Rattle.nl_script.specs.Lines.{IsLineAnswered, LineEnd}
 use Rattle.nl_script.specs.Scripts.{ends_misread, ends_refused}
 use Rattle.nl_script.specs.declared.reading.Next.{Next}
 use Rattle.nl_script.specs.declared.reading.Next.TheVariants.{Line, Unheld, End, Unread}
-use Rattle.nl_texts.specs.declared.ends.Done.{Done}
+use Rattle.nl_script.specs.declared.texts.ends.Done.{Done}
 
 -- the input, where it is known, begins with this line, and what is left is what lies behind its line feed
 pub record IsNextLine (input left : Option Text) (line : List ℕ) : Type 0 where

@@ -1,4 +1,4 @@
-use Rattle.nl_texts.specs.Facts.Appending.{OnOk-then}
+use Rattle.nl_script.specs.Facts.Appending.{OnOk-then}
 use Rattle.nl_script.proofs.lines.tell_segments.Goals as goal
 
 pub returns : goal.returns

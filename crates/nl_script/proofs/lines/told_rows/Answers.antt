@@ -2,7 +2,7 @@ use Rattle.std.proofs.Common.{◌≡◌, ◌∙◌, ◌+◌, ◌<◌, [], ◌∷
 use Rattle.std.proofs.lemmas.Grind.{common_steps}
 use Rattle.std.proofs.lemmas.List.{take_more}
 use Rattle.nl_types.specs.Blocks.Segments.{clean_info, info_of}
-use Rattle.nl_texts.specs.declared.segments.SegmentRow.{SegmentRow}
+use Rattle.nl_script.specs.declared.texts.segments.SegmentRow.{SegmentRow}
 use Rattle.nl_script.specs.Lines.{row_of, rows_from}
 use Rattle.nl_script.proofs.ToldSegments.{rows-more}
 use Rattle.nl_script.proofs.lines.told_rows.Goals as goal

@@ -1,8 +1,8 @@
 use Rattle.std.proofs.Common.{ap, inl, inr, refl, subst}
 use Rattle.nl_types.specs.declared.error.VolError.{VolError}
 use Rattle.nl_commit.specs.Layout.{Layout}
-use Rattle.nl_texts.specs.RefusalTexts.{start_text}
-use Rattle.nl_texts.specs.declared.refusals.StartStep.TheVariants.{Start}
+use Rattle.nl_script.specs.RefusalTexts.{start_text}
+use Rattle.nl_script.specs.declared.texts.refusals.StartStep.TheVariants.{Start}
 use Rattle.nlvol.specs.Telling.{Tells, errors_of}
 use Rattle.nlvol.proofs.sessions.run_begun.Goals as goal
 

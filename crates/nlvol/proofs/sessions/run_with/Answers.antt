@@ -1,8 +1,8 @@
 use Rattle.std.proofs.Common.{◌∙◌, List, [], Option, inl, inr, refl, subst, sym, ℕ}
 use Rattle.std.proofs.KnownBytes.{Appends-trans}
 use Rattle.nl_types.specs.declared.error.VolError.TheVariants.{Memory}
-use Rattle.nl_texts.specs.RefusalTexts.{start_text}
-use Rattle.nl_texts.specs.declared.refusals.StartStep.TheVariants.{Start}
+use Rattle.nl_script.specs.RefusalTexts.{start_text}
+use Rattle.nl_script.specs.declared.texts.refusals.StartStep.TheVariants.{Start}
 use Rattle.nlvol.specs.Beginnings.{place_path}
 use Rattle.nlvol.specs.Endings.{Ends}
 use Rattle.nlvol.specs.Telling.{IsNoticed, Tells, errors_of, notice}

@@ -1,0 +1,270 @@
+//! Room in the volume for what a backup writes.
+ghost use Rattle.std.specs.Prelude.{◌≡◌, None, OnOk};
+ghost use Rattle.nl_commit.specs.Layout.{MeansWorld};
+ghost use Rattle.nl_keep.specs.Lasting.{KeepsOwn};
+ghost use Rattle.nl_keep.specs.Volumes.{LeadsTo};
+ghost use Rattle.nl_keep_pen.specs.declared.room.Effort;
+
+use crate::PenVolume;
+use crate::capacity::most_segments;
+use crate::rounds::Round;
+use crate::tidying::{Preparing, Tidying};
+use nl_core::Pen;
+use nl_device::Device;
+use nl_folders::{Path, all_differences, find_in};
+use nl_keep::laws;
+use nl_sufile::Sustat;
+use nl_types::{BLOCK_SIZE, Event, MAX_PAYLOAD, Object, Reply, VolError};
+use std::alloc::{AllocError, Global};
+
+/// How many blocks of a log there are for each summary block, at most.
+const PAYLOAD: u64 = MAX_PAYLOAD as u64;
+
+/// How many blocks a node of a block tree names.
+const SLOTS: u64 = 128;
+
+/// How many inodes a block has.
+const INODES: u64 = 8;
+
+/// What a record in a directory takes beside the name, with its share of what is left of the block.
+const RECORD_BYTES: u64 = 32;
+
+/// Clean segments that a backup can't use: two that stay, the rest of the active one, and one that a log
+/// doesn't fill.
+const SPARE: u64 = 4;
+
+/// The first block of these bytes, and the rest. The last block may be shorter, and behind it is none.
+fn split_block(bytes: &[u8]) -> (&[u8], &[u8]) {
+    if bytes.len() < BLOCK_SIZE {
+        bytes.split_at(bytes.len())
+    } else {
+        bytes.split_at(BLOCK_SIZE)
+    }
+}
+
+/// How many blocks of these bytes don't stand in the old ones at their place.
+fn other_blocks(old: &[u8], new: &[u8]) -> u64 {
+    let mut old = old;
+    let mut count: u64 = 0;
+    for block in new.chunks(BLOCK_SIZE) {
+        let (before, rest) = split_block(old);
+        if before != block {
+            count = count.saturating_add(1);
+        }
+        old = rest;
+    }
+    count
+}
+
+/// How many blocks a file takes whose bytes are new: data, and the nodes above it.
+fn file_blocks(old: Option<&Object>, new: &[u8]) -> u64 {
+    let data = match old {
+        Some(Object::File(old)) => other_blocks(old.as_slice(), new),
+        _ => other_blocks(&[], new),
+    };
+    let nodes = (new.len() as u64)
+        .div_ceil(BLOCK_SIZE as u64)
+        .div_ceil(SLOTS);
+    data.saturating_add(nodes.min(data)).saturating_add(2)
+}
+
+/// How many blocks of directories a tree has at most: each directory has a node, and a block that isn't full.
+fn directory_blocks(tree: &[(Path, Object)]) -> u64 {
+    let mut bytes: u64 = 0;
+    let mut directories: u64 = 0;
+    for (path, object) in tree {
+        let length = path.as_slice().last().map_or(0, |name| name.len() as u64);
+        bytes = bytes.saturating_add(length.saturating_add(RECORD_BYTES));
+        if matches!(object, Object::Dir) {
+            directories = directories.saturating_add(1);
+        }
+    }
+    directories
+        .saturating_mul(2)
+        .saturating_add(bytes.div_ceil(BLOCK_SIZE as u64))
+}
+
+/// How many blocks of the file of inodes change with so many inodes of a tree of so many.
+fn inode_blocks(changed: u64, all: u64) -> u64 {
+    let each = changed.min(all.div_ceil(INODES));
+    each.saturating_add(all.div_ceil(INODES * SLOTS))
+        .saturating_add(2)
+}
+
+/// How many blocks the calls write, at most, that make a tree another.
+fn blocks_between(
+    alloc: Global,
+    old: &[(Path, Object)],
+    new: &[(Path, Object)],
+) -> Result<u64, AllocError> {
+    let differences = all_differences(alloc, old, new)?;
+    let mut blocks: u64 = 0;
+    for (path, _) in differences.as_slice() {
+        let earlier = find_in(old, path.as_slice());
+        if let Some(Object::File(bytes)) = find_in(new, path.as_slice()) {
+            blocks = blocks.saturating_add(file_blocks(earlier, bytes.as_slice()));
+        }
+    }
+    let changed = differences.len() as u64;
+    let all = (old.len() as u64).max(new.len() as u64);
+    let tables = inode_blocks(changed, all).saturating_add(directory_blocks(new));
+    Ok(blocks.saturating_add(tables))
+}
+
+/// How many blocks a segment has beside the summaries of its logs. A last block alone has no place for a log.
+fn payload_of(segment_blocks: u64) -> u64 {
+    let (logs, rest) = (
+        segment_blocks / (PAYLOAD + 1),
+        segment_blocks % (PAYLOAD + 1),
+    );
+    logs.saturating_mul(PAYLOAD)
+        .saturating_add(rest.saturating_sub(1))
+}
+
+/// How many segments so many blocks take, with the summaries of their logs.
+fn segments_for(blocks: u64, segment_blocks: u64) -> u64 {
+    blocks
+        .div_ceil(payload_of(segment_blocks).max(1))
+        .saturating_add(SPARE)
+}
+
+/// How room is made for a tree.
+#[derive(Clone, Copy, PartialEq, Eq)]
+pub enum Effort {
+    /// By what is to be written, as it is reckoned.
+    Reckoned,
+    /// There was no room: a round of cleaning comes first, and the volume grows by a quarter at least.
+    Greater,
+    /// There was none again: the volume becomes as great as it may be.
+    Greatest,
+}
+
+/// Sees to it that there is room for a tree, before it is stored.
+#[derive(Clone, Copy)]
+pub struct Room<'t> {
+    alloc: Global,
+    wanted: &'t [(Path, Object)],
+    moment: u64,
+    /// The most bytes that the volume may have.
+    most: u64,
+    pub effort: Effort,
+    /// How many bytes the volume had, and what it has where it was grown.
+    pub grown: Option<(u64, u64)>,
+}
+
+impl<'t> Room<'t> {
+    /// No room is made yet.
+    pub fn new(alloc: Global, wanted: &'t [(Path, Object)], moment: u64, most: u64) -> Room<'t>
+        ensures wanted { result.wanted.now ≡ wanted.entry.now }
+        ensures moment { result.moment ≡ moment }
+        ensures most { result.most ≡ most }
+        ensures effort { result.effort ≡ Effort.Reckoned }
+        ensures grown { result.grown ≡ None }
+    {
+        Room {
+            alloc,
+            wanted,
+            moment,
+            most,
+            effort: Effort::Reckoned,
+            grown: None,
+        }
+    }
+
+    /// How many segments the volume is to have, where it may have so many.
+    fn wanted_segments(&self, stat: Sustat, segment_bytes: u64, lacking: u64, most: u64) -> u64 {
+        let base = match self.grown {
+            Some((_, grown)) => grown / segment_bytes.max(1),
+            None => stat.segments as u64,
+        };
+        match self.effort {
+            Effort::Reckoned if lacking == 0 => stat.segments as u64,
+            Effort::Reckoned | Effort::Greater => {
+                let more = lacking.max(base / 4).max(1);
+                base.saturating_add(more).min(most)
+            }
+            Effort::Greatest => most,
+        }
+    }
+
+    /// Grows the volume, where it isn't as great already.
+    fn grow<D: Device>(
+        &mut self,
+        pen: &mut Pen<D>,
+        segments: u64,
+        segment_bytes: u64,
+    ) -> Result<(), VolError>
+        ensures { OnOk result (LeadsTo KeepsOwn (MeansWorld pen.old) (MeansWorld pen.new)) }
+    {
+        let present = pen.segments().sustat().segments as u64;
+        let Ok(wanted) = u32::try_from(segments) else {
+            return Ok(());
+        };
+        if segments <= present {
+            return Ok(());
+        }
+        match resize(pen, wanted) {
+            Ok(_) => {
+                let old = present.saturating_mul(segment_bytes);
+                self.grown = Some((old, segments.saturating_mul(segment_bytes)));
+                Ok(())
+            }
+            // It is as great as one can be.
+            Err(VolError::BadGeometry) => Ok(()),
+            Err(error) => Err(error),
+        }
+    }
+
+    /// A round of cleaning, where there was no room before.
+    fn clean_again<D: Device>(&self, volume: &mut PenVolume<D>) -> Result<(), VolError>
+        ensures { OnOk result (LeadsTo KeepsOwn
+            (MeansWorld volume.old.pen) (MeansWorld volume.new.pen)) }
+    {
+        if self.effort == Effort::Reckoned {
+            return Ok(());
+        }
+        let mut round = Round {
+            alloc: self.alloc,
+            moment: self.moment,
+        };
+        round.tidy(volume)
+    }
+
+    /// Grows the volume by what lacks for the tree.
+    fn make_room<D: Device>(
+        &mut self,
+        pen: &mut Pen<D>,
+        earlier: &[(Path, Object)],
+    ) -> Result<(), VolError>
+        ensures { OnOk result (LeadsTo KeepsOwn (MeansWorld pen.old) (MeansWorld pen.new)) }
+    {
+        let stat = pen.segments().sustat();
+        let most_segments = u64::from(most_segments(pen.segments().blocks()));
+        let blocks = u64::from(pen.segments().blocks());
+        let written = blocks_between(self.alloc, earlier, self.wanted)?;
+        let lacking = segments_for(written, blocks).saturating_sub(stat.clean as u64);
+        let segment_bytes = blocks.saturating_mul(BLOCK_SIZE as u64);
+        let most = most_segments.min(self.most / segment_bytes.max(1));
+        let segments = self.wanted_segments(stat, segment_bytes, lacking, most);
+        self.grow(pen, segments, segment_bytes)
+    }
+}
+
+/// Gives the volume so many segments.
+fn resize<D: Device>(pen: &mut Pen<D>, segments: u32) -> Reply
+    ensures { LeadsTo KeepsOwn (MeansWorld pen.old) (MeansWorld pen.new) }
+{
+    laws::block_events_keep_all();
+    pen.apply(&Event::Resize(segments))
+}
+
+impl Preparing for Room<'_> {
+    fn prepare<D: Device>(
+        &mut self,
+        volume: &mut PenVolume<D>,
+        earlier: &[(Path, Object)],
+    ) -> Result<(), VolError> {
+        self.clean_again(volume)?;
+        self.make_room(&mut volume.pen, earlier)
+    }
+}

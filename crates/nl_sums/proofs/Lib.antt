@@ -1,3 +1,0 @@
-pub mod Loops
-pub mod Again
-pub mod Read

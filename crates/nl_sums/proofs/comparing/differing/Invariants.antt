@@ -1,8 +1,0 @@
-use Rattle.std.proofs.Common.{◌≡◌}
-use Rattle.std.specs.Prelude.{filter}
-use Rattle.std.specs.List.{range_with_len}
-use Rattle.nl_sums.specs.Comparing.{differs_at}
-use Rattle.nl_sums.proofs.comparing.differing.Given as goal
-
-abbrev pub invariant-loop-place : goal.invariant-loop-place
-invariant-loop-place l = l.places ≡ filter (differs_at l.one l.other) (range_with_len 0 l.place)

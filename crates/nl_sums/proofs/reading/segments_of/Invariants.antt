@@ -1,8 +1,0 @@
-use Rattle.std.proofs.Common.{◌≡◌, ◌-◌}
-use Rattle.nl_sums.specs.Private.Reading.{segments_at}
-use Rattle.nl_sums.proofs.Loops.{with_front}
-use Rattle.nl_sums.proofs.reading.segments_of.Given as goal
-
-abbrev pub invariant-loop : goal.invariant-loop
-invariant-loop l =
-    with_front l.digests (segments_at (l.count - l.counter) l.left) ≡ segments_at l.count l.bytes

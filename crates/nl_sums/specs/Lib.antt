@@ -1,4 +1,0 @@
-pub mod Sums
-pub mod Texts
-pub mod Comparing
-pub mod Private

@@ -1,2 +1,0 @@
--- Facts about the definitions, for proofs of other crates.
-pub mod Appending
