@@ -1,6 +1,6 @@
 //! The current tree of a volume as a folder.
 use crate::asking::{bytes_of, listing_of, names_of, whole_file};
-use crate::volume::Volume;
+use crate::volume::{Volume, applied};
 use nl_folders::{Folder, FolderError, Name};
 use nl_types::{Event, Items, Named};
 use std::alloc::Global;
@@ -26,13 +26,13 @@ impl<V: Volume> Folder for CurrentFolder<V> {
 
     fn list(&mut self, alloc: Global, path: &[Name]) -> Result<Items<Named>, FolderError> {
         let ask = listing_of(alloc, path)?;
-        let reply = self.volume.apply(&Event::Read(ask));
+        let reply = applied(&mut self.volume, Event::Read(ask));
         names_of(reply)
     }
 
     fn read(&mut self, alloc: Global, path: &[Name]) -> Result<Items<u8>, FolderError> {
         let ask = whole_file(alloc, path)?;
-        let reply = self.volume.apply(&Event::Read(ask));
+        let reply = applied(&mut self.volume, Event::Read(ask));
         bytes_of(reply)
     }
 }

@@ -7,7 +7,7 @@ ghost use Rattle.nl_keep.specs.Private.Refused.{RefusesRange};
 ghost use Rattle.nl_keep.specs.Refusals.{RefusesToForget, RefusesToForgetAll};
 ghost use Rattle.nl_keep.specs.Volumes.{LeadsTo};
 
-use crate::volume::Volume;
+use crate::volume::{Volume, applied};
 use nl_types::{Answer, CheckpointNumber, Event, Items, ListOptions, Mode, Range, Row, VolError};
 
 // ---- runs
@@ -51,7 +51,7 @@ fn make_plain<V: Volume>(volume: &mut V, number: CheckpointNumber) -> Result<(),
     ensures plain { OnOk result (LeadsTo (MakesPlain number) (V.means volume.old) (V.means volume.new)) }
     ensures refused { IfErr result (λ e. (w : World) → V.means volume.old w → RefusesToForget number w e) }
 {
-    volume.apply(&Event::ChangeMode(number, Mode::Plain))?;
+    drop(applied(volume, Event::ChangeMode(number, Mode::Plain))?);
     Ok(())
 }
 
@@ -71,10 +71,13 @@ pub(crate) fn rows_from<V: Volume>(
         from: Some(number),
         count: None,
     };
-    match volume.apply(&Event::Listing(options))? {
+    match applied(volume, Event::Listing(options))? {
         Answer::Rows(rows) => Ok(rows),
         // No volume answers a listing by anything else.
-        _ => Err(VolError::NoCheckpoint),
+        other => {
+            drop(other);
+            Err(VolError::NoCheckpoint)
+        }
     }
 }
 
@@ -111,10 +114,13 @@ fn take_range<V: Volume>(
     ensures taken { OnOk result (LeadsTo (TakesRange first last) (V.means volume.old) (V.means volume.new)) }
     ensures refused { IfErr result (λ e. (w : World) → V.means volume.old w → RefusesRange first last w e) }
 {
-    match volume.apply(&Event::RemoveRange { first, last })? {
+    match applied(volume, Event::RemoveRange { first, last })? {
         Answer::Removed(range) => judge_removed(&range, first),
         // No volume answers the removal of a range by anything else.
-        _ => Err(VolError::BadRange),
+        other => {
+            drop(other);
+            Err(VolError::BadRange)
+        }
     }
 }
 

@@ -7,7 +7,7 @@ ghost use Rattle.nl_types.specs.Plain.Worlds.{World};
 ghost use Rattle.nl_keep.specs.Private.Refused.{RefusesCalls};
 ghost use Rattle.nl_keep.specs.Volumes.{LeadsTo};
 
-use crate::volume::Volume;
+use crate::volume::{Volume, applied};
 use nl_folders::{Path, Plan};
 use nl_types::{Change, Event, Items, Object, VolError};
 use std::alloc::Global;
@@ -53,7 +53,7 @@ fn apply_call<V: Volume>(volume: &mut V, call: Change) -> Result<(), VolError>
     ensures refused { IfErr result (λ e. (w : World) → V.means volume.old w
         → RefusesCalls (call ∷ []) w e) }
 {
-    volume.apply(&Event::Apply(call))?;
+    drop(applied(volume, Event::Apply(call))?);
     Ok(())
 }
 

@@ -9,7 +9,7 @@ ghost use Rattle.nl_keep.specs.Volumes.{LeadsTo};
 use crate::judging::judge_tree;
 use crate::making::make;
 use crate::trees::current_tree;
-use crate::volume::Volume;
+use crate::volume::{Volume, applied};
 use nl_folders::{FolderError, Path, Tree};
 use nl_types::{Answer, CheckpointNumber, Event, Mode, Object, VolError};
 use std::alloc::Global;
@@ -82,13 +82,14 @@ fn snapshot<V: Volume>(volume: &mut V, moment: u64) -> Result<CheckpointNumber, 
     ensures refused { IfErr result (λ e. (w : World) → V.means volume.old w
         → RefusesSnapshot (latest w) e) }
 {
-    match volume.apply(&Event::Checkpoint {
-        mode: Mode::Snapshot,
-        moment,
-    })? {
+    let mode = Mode::Snapshot;
+    match applied(volume, Event::Checkpoint { mode, moment })? {
         Answer::Checkpoint(number) => Ok(number),
         // No volume answers a checkpoint by anything else.
-        _ => Err(KeepError::Disordered),
+        other => {
+            drop(other);
+            Err(KeepError::Disordered)
+        }
     }
 }
 

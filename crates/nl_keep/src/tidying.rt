@@ -6,7 +6,7 @@ ghost use Rattle.nl_keep.specs.Private.Refused.{RefusesMinor, RefusesMinorOnes};
 ghost use Rattle.nl_keep.specs.Volumes.{LeadsTo};
 
 use crate::forgetting::rows_from;
-use crate::volume::Volume;
+use crate::volume::{Volume, applied};
 use nl_types::{CheckpointNumber, Event, Mode, Row, VolError};
 
 /// Whether the volume made a checkpoint by itself, and nobody made a snapshot of it.
@@ -28,7 +28,7 @@ fn remove_if_minor<V: Volume>(volume: &mut V, row: &Row) -> Result<(), VolError>
     if !is_plain_minor(row) {
         return Ok(());
     }
-    volume.apply(&Event::Remove(row.number))?;
+    drop(applied(volume, Event::Remove(row.number))?);
     Ok(())
 }
 

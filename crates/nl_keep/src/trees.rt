@@ -41,8 +41,14 @@ pub fn judge_kept<V: Volume>(
         ⊎ ((e ≡ FolderError.Refused VolError.NoCheckpoint) × (copy_at w number ≡ None))) }
 {
     let path = spelled(alloc, &[])?;
-    match volume.read_at(number, &Ask::Stat { path }) {
-        Ok(_) => Ok(()),
+    let ask = Ask::Stat { path };
+    let reply = volume.read_at(number, &ask);
+    drop(ask);
+    match reply {
+        Ok(answer) => {
+            drop(answer);
+            Ok(())
+        }
         Err(error) => Err(FolderError::Refused(error)),
     }
 }

@@ -7,6 +7,7 @@ ghost use Rattle.nl_types.specs.declared.reply.Answer.TheVariants as answer;
 ghost use Rattle.nl_commit.specs.Layout.{Does, unshared};
 ghost use Rattle.nl_types.specs.Replies.{reply_with};
 
+use crate::changes::applied;
 use nl_core::Pen;
 use nl_device::Device;
 use nl_types::{
@@ -21,7 +22,7 @@ pub fn listing<D: Device>(pen: &mut Pen<D>, options: &ListOptions) -> Result<Ite
     ensures same { pen.new ≡ pen.old }
 {
     pen.means_a_world();
-    rows_listed(pen.apply(&Event::Listing(*options)))
+    rows_listed(applied(pen, Event::Listing(*options)))
 }
 
 /// The bytes of the file at a path of the current tree from an offset on, as many as there are and at most
@@ -42,7 +43,7 @@ pub fn read<D: Device>(
     let Ok(path) = Items::from_slice(alloc, path) else {
         return Err(VolError::Memory);
     };
-    bytes_read(pen.apply(&Event::Read(Ask::Bytes { path, offset, len })))
+    bytes_read(applied(pen, Event::Read(Ask::Bytes { path, offset, len })))
 }
 
 /// The names in the directory at a path of the current tree with their kinds, ascending by bytes. Paths are
@@ -61,7 +62,7 @@ pub fn list<D: Device>(
     let Ok(path) = Items::from_slice(alloc, path) else {
         return Err(VolError::Memory);
     };
-    names_listed(pen.apply(&Event::Read(Ask::List { path })))
+    names_listed(applied(pen, Event::Read(Ask::List { path })))
 }
 
 /// What stands at a path of the current tree: a file with its size in bytes, or a directory with the number
@@ -76,5 +77,5 @@ pub fn stat<D: Device>(alloc: Global, pen: &mut Pen<D>, path: &[u8]) -> Result<S
     let Ok(path) = Items::from_slice(alloc, path) else {
         return Err(VolError::Memory);
     };
-    stat_told(pen.apply(&Event::Read(Ask::Stat { path })))
+    stat_told(applied(pen, Event::Read(Ask::Stat { path })))
 }

@@ -19,10 +19,12 @@ pub struct Cleaned {
 fn is_moved(event: Event, reply: &Reply) -> bool
     ensures { result ≡ is_moved event reply.now }
 {
-    match event {
+    let is_moved = match event {
         Event::Move { .. } => reply.is_ok(),
         _ => false,
-    }
+    };
+    drop(event);
+    is_moved
 }
 
 /// The reply, where the event is no move that was done.

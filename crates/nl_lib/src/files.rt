@@ -12,7 +12,7 @@ ghost use Rattle.nl_types.specs.Changes.{change_at};
 ghost use Rattle.nl_types.specs.Replies.{reply_with};
 ghost use Rattle.nl_lib.specs.Calls.{done_reply};
 
-use crate::changes::apply;
+use crate::changes::{applied, apply};
 use nl_core::Pen;
 use nl_device::Device;
 use nl_types::{Change, Event, Items, PathCall, VolError, copies, written};
@@ -101,7 +101,7 @@ pub fn write<D: Device>(
         offset,
         bytes,
     });
-    written(pen.apply(&event))
+    written(applied(pen, event))
 }
 
 /// Gives what stands at a path another one, with all that lies below it, after POSIX. A file takes the place

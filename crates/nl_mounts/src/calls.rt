@@ -4,6 +4,8 @@ ghost use Rattle.nl_types.specs.declared.event.Event.TheVariants.{Apply, ChangeM
 ghost use Rattle.nl_types.specs.declared.event.Mode.TheVariants.{Plain, Snapshot};
 ghost use Rattle.nl_types.specs.declared.reply.Answer.TheVariants as answer;
 ghost use Rattle.nl_types.specs.Changes.{change_at};
+ghost use Rattle.nl_publish.specs.Locks.{IsNoMountEvent};
+ghost use Rattle.nl_mounts.specs.Sharing.{HasRun};
 ghost use Rattle.nl_mounts.specs.TypedCalls.{HasAnswered, HasDone, UnlessMemory};
 
 use crate::shared::Shared;
@@ -14,6 +16,19 @@ use nl_types::{
 };
 use std::alloc::Global;
 use std::sync::Wait;
+
+impl<P: NotingPen, J: Volumes, W: Press> Shared<P, J, W> {
+    /// Applies an event that nothing else needs. It is dropped here, by one call, and at no exit of a caller: a
+    /// drop that the compiler adds takes as long to prove as a hundred calls.
+    fn applied<R: Wait>(&self, rt: &R, event: Event) -> Reply
+        requires { IsNoMountEvent event }
+        ensures { HasRun event result }
+    {
+        let reply = self.apply(rt, &event);
+        drop(event);
+        reply
+    }
+}
 
 // ---- changes of files
 
@@ -31,7 +46,7 @@ impl<P: NotingPen, J: Volumes, W: Press> Shared<P, J, W> {
         let Ok(path) = Items::from_slice(alloc, path) else {
             return Err(VolError::Memory);
         };
-        without_answer(self.apply(rt, &Event::Apply(call.change(path))))
+        without_answer(self.applied(rt, Event::Apply(call.change(path))))
     }
 
     /// Makes an empty file.
@@ -115,7 +130,7 @@ impl<P: NotingPen, J: Volumes, W: Press> Shared<P, J, W> {
             offset,
             bytes,
         });
-        written(self.apply(rt, &event))
+        written(self.applied(rt, event))
     }
 
     /// Gives what stands at a path another one, with all that lies below it.
@@ -134,7 +149,7 @@ impl<P: NotingPen, J: Volumes, W: Press> Shared<P, J, W> {
         let Ok((from, to)) = copies(alloc, from, to) else {
             return Err(VolError::Memory);
         };
-        without_answer(self.apply(rt, &Event::Apply(Change::Rename { from, to })))
+        without_answer(self.applied(rt, Event::Apply(Change::Rename { from, to })))
     }
 }
 
@@ -151,7 +166,7 @@ impl<P: NotingPen, J: Volumes, W: Press> Shared<P, J, W> {
         ensures { HasAnswered answer.Checkpoint (Checkpoint mode moment) result }
     {
         laws::locked_runs_lead_on();
-        checkpoint_made(self.apply(rt, &Event::Checkpoint { mode, moment }))
+        checkpoint_made(self.applied(rt, Event::Checkpoint { mode, moment }))
     }
 
     /// Keeps the current tree as a plain checkpoint, and answers its number. The moment is in whole seconds.
@@ -188,7 +203,7 @@ impl<P: NotingPen, J: Volumes, W: Press> Shared<P, J, W> {
     ) -> Result<(), VolError>
         ensures { HasDone (ChangeMode number mode) result }
     {
-        without_answer(self.apply(rt, &Event::ChangeMode(number, mode)))
+        without_answer(self.applied(rt, Event::ChangeMode(number, mode)))
     }
 
     /// Removes a plain checkpoint, as `nl_lib::delete_checkpoint` does.
@@ -203,7 +218,7 @@ impl<P: NotingPen, J: Volumes, W: Press> Shared<P, J, W> {
     ) -> Result<(), VolError>
         ensures { HasDone (Remove number) result }
     {
-        without_answer(self.apply(rt, &Event::Remove(number)))
+        without_answer(self.applied(rt, Event::Remove(number)))
     }
 
     /// Removes the plain checkpoints from a first number to a last one, but for the latest one, and answers
@@ -221,7 +236,7 @@ impl<P: NotingPen, J: Volumes, W: Press> Shared<P, J, W> {
         ensures { HasAnswered answer.Removed (RemoveRange first last) result }
     {
         laws::locked_runs_lead_on();
-        range_removed(self.apply(rt, &Event::RemoveRange { first, last }))
+        range_removed(self.applied(rt, Event::RemoveRange { first, last }))
     }
 
     /// What is told of the kept checkpoints that a listing shows, in its order. `Port::checkpoints` takes no
@@ -233,7 +248,7 @@ impl<P: NotingPen, J: Volumes, W: Press> Shared<P, J, W> {
         ensures { HasAnswered answer.Rows (Listing options.now) result }
     {
         laws::locked_runs_lead_on();
-        rows_listed(self.apply(rt, &Event::Listing(*options)))
+        rows_listed(self.applied(rt, Event::Listing(*options)))
     }
 
     /// Makes the volume one of so many segments, as `nl_lib::resize` does.
@@ -244,6 +259,6 @@ impl<P: NotingPen, J: Volumes, W: Press> Shared<P, J, W> {
     pub fn resize<R: Wait>(&self, rt: &R, segments: u32) -> Result<(), VolError>
         ensures { HasDone (Resize segments) result }
     {
-        without_answer(self.apply(rt, &Event::Resize(segments)))
+        without_answer(self.applied(rt, Event::Resize(segments)))
     }
 }

@@ -1,7 +1,7 @@
 //! Events that steps ask for: files that are made and written, and checkpoints.
 use nl_core::Pen;
 use nl_device::MemDevice;
-use nl_types::{Change, Event, Items, Mode, VolError};
+use nl_types::{Change, Event, Items, Mode, VolError, without_answer};
 use std::alloc::{AllocError, Global};
 
 /// Makes a file.
@@ -53,6 +53,21 @@ pub(crate) fn checkpoint(mode: Mode, moment: u64) -> Event {
 
 /// Does an event whose answer doesn't matter.
 pub(crate) fn done(pen: &mut Pen<MemDevice>, event: &Event) -> Result<(), VolError> {
-    pen.apply(event)?;
+    without_answer(pen.apply(event))
+}
+
+/// Does an event that nothing else needs. It is dropped here, by one call, and at no exit of a caller: a drop
+/// that the compiler adds takes as long to prove as a hundred calls.
+pub(crate) fn done_once(pen: &mut Pen<MemDevice>, event: Event) -> Result<(), VolError> {
+    let went = done(pen, &event);
+    drop(event);
+    went
+}
+
+/// Does events whose answers don't matter, up to the first refusal.
+pub(crate) fn do_all(pen: &mut Pen<MemDevice>, events: &[Event]) -> Result<(), VolError> {
+    for event in events {
+        done(pen, event)?;
+    }
     Ok(())
 }

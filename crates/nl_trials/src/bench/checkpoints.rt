@@ -1,10 +1,10 @@
 //! Checkpoints of one changed block on a pen, by the call for events alone or by the one for events beside
 //! readers.
 use crate::bench::volume::{LENGTH, new_pen, plain_checkpoint, small_creation, small_write};
-use crate::events::done;
+use crate::events::{done, done_once};
 use nl_core::{Commit, Pen};
 use nl_device::MemDevice;
-use nl_types::{Event, VolError};
+use nl_types::{Event, VolError, without_answer};
 use std::alloc::Global;
 
 /// The pen's call that an event is done by.
@@ -19,25 +19,23 @@ fn done_noting(
     event: &Event,
     notes: &mut Vec<Commit>,
 ) -> Result<(), VolError> {
-    pen.apply_noting(event, notes)?;
-    Ok(())
+    without_answer(pen.apply_noting(event, notes))
 }
 
 /// Does an event on the pen. The commits of one beside readers are dropped.
 fn done_by(
     pen: &mut Pen<MemDevice>,
     call: Call,
-    event: &Event,
+    event: Event,
     notes: &mut Vec<Commit>,
 ) -> Result<(), VolError> {
-    match call {
-        Call::Apply => done(pen, event),
-        Call::ApplyNoting => {
-            let went = done_noting(pen, event, notes);
-            notes.clear();
-            went
-        }
-    }
+    let went = match call {
+        Call::Apply => done(pen, &event),
+        Call::ApplyNoting => done_noting(pen, &event, notes),
+    };
+    notes.clear();
+    drop(event);
+    went
 }
 
 /// Overwrites the file's byte.
@@ -48,8 +46,7 @@ fn overwrite(
     turn: u64,
     notes: &mut Vec<Commit>,
 ) -> Result<(), VolError> {
-    let write = small_write(alloc, turn)?;
-    done_by(pen, call, &write, notes)
+    done_by(pen, call, small_write(alloc, turn)?, notes)
 }
 
 /// Overwrites the file's byte so often, with a checkpoint behind each.
@@ -62,14 +59,13 @@ fn overwrite_often(
 ) -> Result<(), VolError> {
     for turn in 0..count {
         overwrite(alloc, pen, call, turn, notes)?;
-        done_by(pen, call, &plain_checkpoint(), notes)?;
+        done_by(pen, call, plain_checkpoint(), notes)?;
     }
     Ok(())
 }
 
 fn make_file(alloc: Global, pen: &mut Pen<MemDevice>) -> Result<(), VolError> {
-    let creation = small_creation(alloc)?;
-    done(pen, &creation)
+    done_once(pen, small_creation(alloc)?)
 }
 
 /// Makes the file, and so many changes of it.
@@ -85,8 +81,9 @@ fn change_often(
 }
 
 /// Makes so many checkpoints.
-// Pen, events and commits are each lent for the work, so that one exit alone drops them.
 pub(crate) fn make_checkpoints(alloc: Global, call: Call, count: u64) -> Result<(), VolError> {
     let mut pen = new_pen(alloc, LENGTH)?;
-    change_often(alloc, &mut pen, call, count)
+    let went = change_often(alloc, &mut pen, call, count);
+    drop(pen);
+    went
 }

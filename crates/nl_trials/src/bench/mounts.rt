@@ -1,26 +1,17 @@
 //! Reads of a mount on a pen.
 use crate::bench::clock::{now, since};
 use crate::bench::volume::{LENGTH, large, new_pen, preparation};
-use crate::events::done;
+use crate::events::{do_all, done, done_once};
 use nl_core::Pen;
 use nl_device::MemDevice;
-use nl_types::{Answer, Ask, CheckpointNumber, Event, Items, MountNumber, VolError};
+use nl_types::{Ask, CheckpointNumber, Event, Items, MountNumber, VolError};
 use std::alloc::{AllocError, Global};
 use std::time::{Clock, Duration};
 
-/// Mounts the snapshot.
+/// Mounts the snapshot. The first mount of a volume has number 1.
 fn mount(pen: &mut Pen<MemDevice>) -> Result<MountNumber, VolError> {
-    match pen.apply(&Event::Mount(CheckpointNumber::new(2)))? {
-        Answer::Mount(number) => Ok(number),
-        _ => Err(VolError::BadMount),
-    }
-}
-
-fn do_all(pen: &mut Pen<MemDevice>, events: &[Event]) -> Result<(), VolError> {
-    for event in events {
-        done(pen, event)?;
-    }
-    Ok(())
+    done_once(pen, Event::Mount(CheckpointNumber::new(2)))?;
+    Ok(MountNumber::new(1))
 }
 
 fn prepare(alloc: Global, pen: &mut Pen<MemDevice>) -> Result<(), VolError> {
@@ -49,7 +40,7 @@ fn read_often(pen: &mut Pen<MemDevice>, read: &Event, count: u64) -> Result<(), 
     Ok(())
 }
 
-fn time_reads<R: Clock>(
+fn time_often<R: Clock>(
     rt: &R,
     pen: &mut Pen<MemDevice>,
     read: &Event,
@@ -60,6 +51,17 @@ fn time_reads<R: Clock>(
     since(rt, begun)
 }
 
+fn time_reads<R: Clock>(
+    rt: &R,
+    pen: &mut Pen<MemDevice>,
+    read: Event,
+    count: u64,
+) -> Result<Duration, VolError> {
+    let took = time_often(rt, pen, &read, count);
+    drop(read);
+    took
+}
+
 fn time_on<R: Clock>(
     rt: &R,
     alloc: Global,
@@ -68,8 +70,7 @@ fn time_on<R: Clock>(
 ) -> Result<Duration, VolError> {
     prepare(alloc, pen)?;
     let mount = mount(pen)?;
-    let read = read_of(alloc, mount)?;
-    time_reads(rt, pen, &read, count)
+    time_reads(rt, pen, read_of(alloc, mount)?, count)
 }
 
 /// How long so many reads take, each into new memory.
@@ -77,5 +78,6 @@ pub(crate) fn read_pen<R: Clock>(rt: &R, alloc: Global, count: u64) -> Result<Du
     let mut pen = new_pen(alloc, LENGTH)?;
     let took = time_on(rt, alloc, &mut pen, count);
     pen.give_all_back();
+    drop(pen);
     took
 }

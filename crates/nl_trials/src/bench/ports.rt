@@ -5,27 +5,33 @@ use crate::bench::clock::{now, since};
 use crate::bench::volume::{
     LENGTH, large, new_pen, plain_checkpoint, preparation, segments_for, small_write,
 };
-use crate::tests::backup::give_back;
-use nl_core::Pen;
-use nl_device::MemDevice;
-use nl_mounts::{Port, Shared, is_mount_event, share};
+use crate::tests::backup::{Volume, give_back, shared};
+use nl_mounts::{Port, is_mount_event};
 use nl_publish::{Mount, Opened, Volumes};
-use nl_types::{CheckpointNumber, Event, Segment, VolError};
+use nl_types::{CheckpointNumber, Event, Segment, VolError, without_answer};
 use std::alloc::Global;
 use std::sync::Wait;
 use std::sync::atomic::{AtomicBool, AtomicUsize, Ordering};
 use std::thread::{Threads, for_each_mut, join};
 use std::time::{Clock, Duration};
 
-type Volume<J> = Shared<Pen<MemDevice>, J>;
-
 /// Does an event whose answer doesn't matter.
 fn done<J: Volumes, R: Wait>(rt: &R, volume: &Volume<J>, event: &Event) -> Result<(), VolError> {
     if is_mount_event(event) {
         return Err(VolError::BadMount);
     }
-    volume.apply(rt, event)?;
-    Ok(())
+    without_answer(volume.apply(rt, event))
+}
+
+/// Does an event that nothing else needs.
+fn done_once<J: Volumes, R: Wait>(
+    rt: &R,
+    volume: &Volume<J>,
+    event: Event,
+) -> Result<(), VolError> {
+    let went = done(rt, volume, &event);
+    drop(event);
+    went
 }
 
 /// What is measured.
@@ -209,24 +215,23 @@ impl<J: Volumes + Send + Sync, R: Threads + Wait + Clock + Sync> Bench<'_, J, R>
 
     /// Removes all checkpoints but the latest one and the snapshot, and frees what they alone had.
     fn make_room(&self) -> Result<(), VolError> {
-        done(self.rt, self.volume, &Event::Expire { now: 0, period: 0 })?;
+        done_once(self.rt, self.volume, Event::Expire { now: 0, period: 0 })?;
         for segment in 0..segments_for(self.task.length()) {
             // One that is needed is refused.
-            let _ = done(self.rt, self.volume, &Event::Retire(Segment::new(segment)));
+            let _ = done_once(self.rt, self.volume, Event::Retire(Segment::new(segment)));
         }
         Ok(())
     }
 
     fn overwrite(&self, turn: u64) -> Result<(), VolError> {
-        let write = small_write(self.alloc, turn)?;
-        done(self.rt, self.volume, &write)
+        done_once(self.rt, self.volume, small_write(self.alloc, turn)?)
     }
 
     /// Overwrites a byte, with a checkpoint behind it but where calls alone are measured.
     fn change(&self, turn: u64) -> Result<(), VolError> {
         self.overwrite(turn)?;
         if !matches!(self.task.case, Case::CallsBesidePorts) {
-            done(self.rt, self.volume, &plain_checkpoint())?;
+            done_once(self.rt, self.volume, plain_checkpoint())?;
             if turn % 1000 == 999 {
                 self.make_room()?;
             }
@@ -368,20 +373,6 @@ fn mount_and_time<J: Volumes + Send + Sync, R: Threads + Wait + Clock + Sync>(
     }
 }
 
-fn shared<J: Volumes, R: Wait>(
-    rt: &R,
-    alloc: Global,
-    length: usize,
-    opened: Opened,
-) -> Result<(Volume<J>, Vec<Port<J>>), VolError>
-    requires { opened.seen.book ≡ J.book opened.id }
-{
-    match share::<_, J, _>(alloc, rt, new_pen(alloc, length)?, PORTS, opened) {
-        Ok(made) => Ok(made),
-        Err((refusal, _pen)) => Err(refusal),
-    }
-}
-
 /// How long so many reads of each port take, or so many file calls. At most 4 ports read.
 pub(crate) fn measure<J: Volumes + Send + Sync, R: Threads + Wait + Clock + Sync>(
     rt: &R,
@@ -391,8 +382,9 @@ pub(crate) fn measure<J: Volumes + Send + Sync, R: Threads + Wait + Clock + Sync
 ) -> Result<Duration, VolError>
     requires { opened.seen.book ≡ J.book opened.id }
 {
-    let (volume, mut ports) = shared::<J, _>(rt, alloc, task.length(), opened)?;
+    let pen = new_pen(alloc, task.length())?;
+    let (volume, mut ports) = shared::<J, _>(rt, alloc, pen, PORTS, opened)?;
     let took = mount_and_time(rt, alloc, &volume, ports.as_mut_slice(), task);
-    let _pen = volume.end(rt, Vec::new(alloc));
+    drop(volume.end(rt, Vec::new(alloc)));
     took
 }

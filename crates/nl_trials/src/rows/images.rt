@@ -57,12 +57,24 @@ fn has_changed(image: &mut Vec<u8>, change: &[&str]) -> bool {
     }
 }
 
+/// Whether the same is told of a pen, and it closes to the same bytes.
+fn is_same(
+    pen: &mut Pen<MemDevice>,
+    image: &[u8],
+    told: u64,
+    tally: &mut Tally,
+) -> Result<bool, VolError> {
+    let same = look_at_pen(pen) == told;
+    let again = closes(pen, tally)?;
+    Ok(same && again.as_slice() == image)
+}
+
 /// Whether an image opens to a volume of which the same is told, and which closes to the same bytes.
 fn comes_back(alloc: Global, image: &[u8], told: u64, tally: &mut Tally) -> Result<bool, VolError> {
     let mut pen = opens(alloc, image, tally)?;
-    let same = look_at_pen(&pen) == told;
-    let again = closes(&mut pen, tally)?;
-    Ok(same && again.as_slice() == image)
+    let same = is_same(&mut pen, image, told, tally);
+    drop(pen);
+    same
 }
 
 /// How many bytes the image of a pen has that comes back; None where it doesn't. Words may ask for a change

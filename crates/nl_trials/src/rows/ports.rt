@@ -12,7 +12,7 @@ use nl_mounts::{Port, Shared, is_mount_event};
 use nl_publish::{Mount, Volumes};
 use nl_types::{
     Answer, Ask, CheckpointNumber, Event, MAX_PAYLOAD, Moment, MountNumber, Reply, Segment,
-    VolError,
+    VolError, without_answer,
 };
 use std::alloc::Global;
 use std::sync::Wait;
@@ -97,6 +97,13 @@ impl<J: Volumes, R: Wait> Ported<'_, J, R> {
         ask_port(alloc, &mut self.port, mount, ask)
     }
 
+    /// Applies an event that nothing else needs.
+    pub(crate) fn apply_once(&self, event: Event) -> Reply {
+        let reply = self.shared.apply(self.rt, &event);
+        drop(event);
+        reply
+    }
+
     /// Applies an event that mounts nothing and gives no mount back.
     fn change(&self, event: &Event) -> Reply {
         if is_mount_event(event) {
@@ -133,23 +140,22 @@ impl<J: Volumes, R: Wait> Ported<'_, J, R> {
     }
 
     fn move_out(&self, segment: Segment, now: u64) -> Reply {
-        let event = Event::Move {
+        self.apply_once(Event::Move {
             segment,
             limit: MAX_PAYLOAD,
             now,
-        };
-        self.shared.apply(self.rt, &event)
+        })
     }
 
-    /// Moves what is needed out of a segment and retires it, by events. It answers the last one's reply.
-    fn empty(&self, segment: Segment, now: u64) -> Reply {
+    /// Moves what is needed out of a segment and retires it, by events.
+    fn empty(&self, segment: Segment, now: u64) -> Result<(), VolError> {
         for _ in 0..MOST_MOVES {
             if !self.is_needed(segment) {
                 break;
             }
-            self.move_out(segment, now)?;
+            without_answer(self.move_out(segment, now))?;
         }
-        self.shared.apply(self.rt, &Event::Retire(segment))
+        without_answer(self.apply_once(Event::Retire(segment)))
     }
 
     /// Empties segments up to the first refusal, as `nl_lib::clean_segments` does on a pen.

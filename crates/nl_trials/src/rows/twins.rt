@@ -13,7 +13,7 @@ use nl_core::Pen;
 use nl_device::FaultDevice;
 use nl_lib::{Cleaned, clean_segments, sync};
 use nl_publish::Volumes;
-use nl_types::{Answer, CheckpointNumber, Event, Mode, Reply, Segment, VolError};
+use nl_types::{Answer, Ask, CheckpointNumber, Event, Mode, Reply, Segment, VolError};
 use std::alloc::Global;
 use std::io;
 use std::sync::Wait;
@@ -48,19 +48,39 @@ fn add_replies(alloc: Global, one: &Reply, other: &Reply, out: &mut Vec<u8>) -> 
     add_both(out, one.as_slice(), other.as_slice())
 }
 
+/// The same of replies that nothing else needs.
+fn tell_replies(alloc: Global, one: Reply, other: Reply, out: &mut Vec<u8>) -> io::Result<()> {
+    let added = add_replies(alloc, &one, &other, out);
+    drop((one, other));
+    added
+}
+
 // ---- events
+
+/// What an event comes to on both.
+fn replies_of<J: Volumes, R: Wait>(
+    alloc: Global,
+    alone: &mut Alone,
+    ported: &mut Ported<'_, J, R>,
+    event: Event,
+    tally: &mut Tally,
+) -> (Reply, Reply) {
+    let one = reply_again(alloc, alone, &event, tally);
+    let other = reply_again(alloc, ported, &event, tally);
+    drop(event);
+    (one, other)
+}
 
 fn do_event<J: Volumes, R: Wait>(
     alloc: Global,
     alone: &mut Alone,
     ported: &mut Ported<'_, J, R>,
-    event: &Event,
+    event: Event,
     tally: &mut Tally,
     out: &mut Vec<u8>,
 ) -> io::Result<()> {
-    let one = reply_again(alloc, alone, event, tally);
-    let other = reply_again(alloc, ported, event, tally);
-    add_replies(alloc, &one, &other, out)
+    let (one, other) = replies_of(alloc, alone, ported, event, tally);
+    tell_replies(alloc, one, other, out)
 }
 
 /// What a round comes to, or its refusal.
@@ -95,14 +115,13 @@ fn do_round<J: Volumes, R: Wait>(
 
 /// A sync on the shared volume: a checkpoint, where something is dirty.
 fn synced_by_event<J: Volumes, R: Wait>(
-    alloc: Global,
-    ported: &mut Ported<'_, J, R>,
+    ported: &Ported<'_, J, R>,
     is_dirty: bool,
     moment: u64,
 ) -> Reply {
     if is_dirty {
         let mode = Mode::Plain;
-        ported.apply(alloc, &Event::Checkpoint { mode, moment })
+        ported.apply_once(Event::Checkpoint { mode, moment })
     } else {
         Ok(Answer::Checkpoint(ported.latest()))
     }
@@ -117,8 +136,8 @@ fn do_sync<J: Volumes, R: Wait>(
 ) -> io::Result<()> {
     let is_dirty = alone.pen.is_dirty();
     let one = sync(&mut alone.pen, moment).map(Answer::Checkpoint);
-    let other = synced_by_event(alloc, ported, is_dirty, moment);
-    add_replies(alloc, &one, &other, out)
+    let other = synced_by_event(ported, is_dirty, moment);
+    tell_replies(alloc, one, other, out)
 }
 
 /// How many segments were retired, and the refusal that ended it.
@@ -157,6 +176,21 @@ fn do_cleaning<J: Volumes, R: Wait>(
 
 // ---- questions
 
+/// Asks the tree of a kept checkpoint.
+fn ask_kept<J: Volumes, R: Wait>(
+    alloc: Global,
+    alone: &Alone,
+    ported: &Ported<'_, J, R>,
+    number: CheckpointNumber,
+    ask: Ask,
+    out: &mut Vec<u8>,
+) -> io::Result<()> {
+    let one = alone.pen.read_at(number, &ask);
+    let other = ported.shared.read_at(ported.rt, number, &ask);
+    drop(ask);
+    tell_replies(alloc, one, other, out)
+}
+
 /// Asks the tree of a kept checkpoint: `kept NUMBER`, and a question about a tree.
 fn do_kept<J: Volumes, R: Wait>(
     alloc: Global,
@@ -167,11 +201,7 @@ fn do_kept<J: Volumes, R: Wait>(
 ) -> io::Result<()> {
     let number = CheckpointNumber::new(number_at(words, 1));
     match ask_behind(alloc, words)? {
-        Some(ask) => {
-            let one = alone.pen.read_at(number, &ask);
-            let other = ported.shared.read_at(ported.rt, number, &ask);
-            add_replies(alloc, &one, &other, out)
-        }
+        Some(ask) => ask_kept(alloc, alone, ported, number, ask, out),
         None => add_line(out, b"unknown"),
     }
 }
@@ -250,7 +280,7 @@ fn do_words<J: Volumes, R: Wait>(
         "round" => do_round(alloc, alone, ported, tally, out),
         "kept" if words.len() > 2 => do_kept(alloc, alone, ported, words, out),
         _ => match event_of(alloc, words)? {
-            Some(event) => do_event(alloc, alone, ported, &event, tally, out),
+            Some(event) => do_event(alloc, alone, ported, event, tally, out),
             None => do_question(alloc, alone, ported, words, tally, out),
         },
     }
@@ -292,6 +322,13 @@ fn add_other_reply(alloc: Global, one: &Reply, other: &Reply, out: &mut Vec<u8>)
     add_difference(out, one.as_slice(), other.as_slice())
 }
 
+/// The same of replies that nothing else needs.
+fn tell_other_reply(alloc: Global, one: Reply, other: Reply, out: &mut Vec<u8>) -> io::Result<()> {
+    let added = add_other_reply(alloc, &one, &other, out);
+    drop((one, other));
+    added
+}
+
 /// Makes a last checkpoint on both, behind which neither is dirty, where there is space for it.
 pub(crate) fn do_last<J: Volumes, R: Wait>(
     alloc: Global,
@@ -302,9 +339,8 @@ pub(crate) fn do_last<J: Volumes, R: Wait>(
 ) -> io::Result<()> {
     let mode = Mode::Snapshot;
     let event = Event::Checkpoint { mode, moment: 0 };
-    let one = reply_again(alloc, alone, &event, tally);
-    let other = reply_again(alloc, ported, &event, tally);
-    add_other_reply(alloc, &one, &other, out)
+    let (one, other) = replies_of(alloc, alone, ported, event, tally);
+    tell_other_reply(alloc, one, other, out)
 }
 
 /// Whether two pens close to the same bytes, or neither can be closed.

@@ -15,6 +15,7 @@ use nl_types::{Event, Geometry, VolError};
 use std::alloc::{AllocError, Global};
 use std::io;
 use std::marker::Brand;
+use std::mem::replace;
 use std::sync::Wait;
 
 /// Which call fails, counted from 1 on; none for 0.
@@ -130,6 +131,7 @@ fn compare(alone: &mut Alone, ran: Ran, tally: &mut Tally, out: &mut Vec<u8>) ->
     let (done, mut other) = ran;
     alone.pen.give_all_back();
     let compared = add_ends(&mut alone.pen, &mut other, tally, out);
+    drop(other);
     done.and(compared)
 }
 
@@ -152,6 +154,21 @@ fn do_beside<R: Wait>(
     }
 }
 
+/// Does lines on a new pen, whose looks read a file where they can, and on another one.
+fn do_alone<R: Wait>(
+    rt: &R,
+    alloc: Global,
+    words: &[&str],
+    alone: &mut Alone,
+    lines: &[&str],
+    tally: &mut Tally,
+    out: &mut Vec<u8>,
+) -> io::Result<()> {
+    let read = reading(alloc, words)?;
+    drop(replace(&mut alone.read, read));
+    do_beside(rt, alloc, words, alone, lines, tally, out)
+}
+
 /// Makes the volume of words, and does the lines behind it.
 fn do_made<R: Wait>(
     rt: &R,
@@ -161,14 +178,13 @@ fn do_made<R: Wait>(
     tally: &mut Tally,
     out: &mut Vec<u8>,
 ) -> io::Result<()> {
-    let read = reading(alloc, words)?;
-    match made(alloc, words, tally) {
-        Ok(pen) => {
-            let mut alone = Alone { pen, read };
-            do_beside(rt, alloc, words, &mut alone, lines, tally, out)
-        }
-        Err(_) => Ok(()),
-    }
+    let Ok(pen) = made(alloc, words, tally) else {
+        return Ok(());
+    };
+    let mut alone = Alone { pen, read: None };
+    let done = do_alone(rt, alloc, words, &mut alone, lines, tally, out);
+    drop(alone);
+    done
 }
 
 /// Makes the volume of a line, does the lines behind it, and tells how often memory was refused.

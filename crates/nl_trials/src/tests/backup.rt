@@ -122,16 +122,17 @@ fn back_up_snapshot<J: Volumes + Send + Sync, R: Threads + Wait + Sync>(
     }
 }
 
-/// A new volume for so many ports. Refused, its pen would come back.
+/// A volume that is shared by so many ports. Refused, its pen would come back.
 pub(crate) fn shared<J: Volumes, R: Wait>(
     rt: &R,
     alloc: Global,
+    pen: Pen<MemDevice>,
     ports: usize,
     opened: Opened,
 ) -> Result<(Volume<J>, Vec<Port<J>>), VolError>
     requires { opened.seen.book ≡ J.book opened.id }
 {
-    match share::<_, J, _>(alloc, rt, new_pen(alloc)?, ports, opened) {
+    match share::<_, J, _>(alloc, rt, pen, ports, opened) {
         Ok(made) => Ok(made),
         Err((refusal, _pen)) => Err(refusal),
     }
@@ -144,13 +145,13 @@ fn backed_up<J: Volumes + Send + Sync, R: Threads + Wait + Sync>(
 ) -> Result<Vec<Items<u8>>, VolError>
     requires { opened.seen.book ≡ J.book opened.id }
 {
-    let (volume, mut ports) = shared::<J, _>(rt, alloc, 1, opened)?;
+    let (volume, mut ports) = shared::<J, _>(rt, alloc, new_pen(alloc)?, 1, opened)?;
     let files = match ports.first_mut() {
         Some(port) => back_up_snapshot(rt, alloc, &volume, port),
         None => Err(VolError::BadRange),
     };
     // The pen is as it was under the lock, without mounts. Ports find nothing from now on.
-    let _pen = volume.end(rt, Vec::new(alloc));
+    drop(volume.end(rt, Vec::new(alloc)));
     files
 }
 

@@ -2,7 +2,7 @@
 //! refused, and each finds what the last one left.
 ghost use Rattle.std.specs.Prelude.{◌≡◌};
 
-use crate::tests::backup::{Volume, shared};
+use crate::tests::backup::{Volume, new_pen, shared};
 use nl_mounts::{
     Answer, Ask, CheckpointNumber, Event, Items, ListOptions, Mode, Mount, Opened, Port, Row,
     Standing, Stat, VolError, Volumes,
@@ -83,6 +83,19 @@ fn plain_go<J: Volumes, R: Wait>(rt: &R, volume: &Volume<J>) -> bool {
     removed.is_ok() && is_alone(&volume.listing(rt, &all()), number(4))
 }
 
+/// Does an event, and says whether the port is told of what it published.
+fn is_told<J: Volumes, R: Wait>(
+    rt: &R,
+    volume: &Volume<J>,
+    port: &mut Port<J>,
+    event: Event,
+) -> bool {
+    let told = volume.apply_told(rt, port, &event);
+    let is_told = told.is_told;
+    drop((event, told));
+    is_told
+}
+
 /// Makes a snapshot of which the port is told, and mounts it. It is the fifth checkpoint.
 fn mount_told<J: Volumes, R: Wait>(
     rt: &R,
@@ -93,11 +106,11 @@ fn mount_told<J: Volumes, R: Wait>(
         mode: Mode::Snapshot,
         moment: 9,
     };
-    let told = volume.apply_told(rt, port, &event);
-    if !told.is_told {
-        return Err(VolError::Memory);
+    if is_told(rt, volume, port, event) {
+        volume.mount(rt, port, number(5))
+    } else {
+        Err(VolError::Memory)
     }
-    volume.mount(rt, port, number(5))
 }
 
 /// Whether a port reads three bytes of the file, once it is open and by its path.
@@ -116,12 +129,19 @@ fn finds<J: Volumes>(port: &mut Port<J>, mount: &Mount<J>) -> bool {
     read && into == [b'h', b'i', b'!', b'?'] && port.standing(mount) == Standing::Mounted
 }
 
+/// Whether a port finds a file of four bytes in the second snapshot.
+fn finds_size<J: Volumes>(alloc: Global, port: &mut Port<J>, ask: Ask) -> bool {
+    let told = port.read_at(alloc, number(5), &ask);
+    let has_size = matches!(&told, Ok(Answer::Stat(Stat::File(4))));
+    drop((ask, told));
+    has_size
+}
+
 /// Whether a port lists both snapshots, and finds the file's size in one without its mount.
 fn sees<J: Volumes>(alloc: Global, port: &mut Port<J>) -> Result<bool, VolError> {
-    let rows = port.checkpoints(alloc, &all())?;
     let path = Items::from_slice(alloc, b"/g")?;
-    let told = port.read_at(alloc, number(5), &Ask::Stat { path });
-    Ok(rows.len() == 2 && matches!(told, Ok(Answer::Stat(Stat::File(4)))))
+    let has_size = finds_size(alloc, port, Ask::Stat { path });
+    Ok(port.checkpoints(alloc, &all())?.len() == 2 && has_size)
 }
 
 /// Whether calls answer as is due, and a port finds the file through a mount, which comes with it.
@@ -149,16 +169,13 @@ fn answer_and_mount<J: Volumes, R: Wait>(
 fn answered<J: Volumes, R: Wait>(rt: &R, alloc: Global, opened: Opened) -> Result<bool, VolError>
     requires { opened.seen.book ≡ J.book opened.id }
 {
-    let (volume, mut ports) = shared::<J, _>(rt, alloc, 32, opened)?;
+    let (volume, mut ports) = shared::<J, _>(rt, alloc, new_pen(alloc)?, 32, opened)?;
     let came = answer_and_mount(rt, alloc, &volume, ports.as_mut_slice());
-    let (_pen, gone) = volume.end_for_holders(rt);
-    match came {
-        Err(refusal) => Err(refusal),
-        Ok((good, mount)) => {
-            mount.spend(&gone);
-            Ok(good)
-        }
-    }
+    let (pen, gone) = volume.end_for_holders(rt);
+    drop((pen, ports));
+    let (good, mount) = came?;
+    mount.spend(&gone);
+    Ok(good)
 }
 
 /// Whether each call answers as is due.

@@ -2,7 +2,7 @@
 //! others do.
 ghost use Rattle.std.specs.Prelude.{◌≡◌};
 
-use crate::tests::backup::{Volume, give_back, keep_file, shared};
+use crate::tests::backup::{Volume, give_back, keep_file, new_pen, shared};
 use nl_cleaner::Job;
 use nl_mounts::{
     Amount, Config, Gate, Items, JobAnswer, Moment, Mount, Opened, Port, ReadJob, VolError,
@@ -272,9 +272,9 @@ fn many_reads<J: Volumes + Send + Sync, R: Threads + Wait + Sync>(
 ) -> Result<bool, VolError>
     requires { opened.seen.book ≡ J.book opened.id }
 {
-    let (volume, mut ports) = shared::<J, _>(rt, alloc, 2, opened)?;
+    let (volume, mut ports) = shared::<J, _>(rt, alloc, new_pen(alloc)?, 2, opened)?;
     let good = go_beside_a_mount(rt, alloc, &volume, ports.as_mut_slice());
-    let _pen = volume.end(rt, Vec::new(alloc));
+    drop(volume.end(rt, Vec::new(alloc)));
     good
 }
 

@@ -5,12 +5,12 @@ use Rattle.nl_keep.proofs.forgetting.make_plain.Goals as goal
 
 pub returns-clause-plain : goal.returns-clause-plain
 returns-clause-plain g c =
-    made_plain c.args.number c.apply.result c.in_ok-apply.field-0 (g.V.Volume.means c.args.volume.now)
-    (g.V.Volume.means c.apply.new.self) c.apply.ensures c.in_ok-apply.was
+    made_plain c.args.number c.applied.result c.in_ok-applied.field-0 (g.V.Volume.means c.args.volume.now)
+    (g.V.Volume.means c.applied.new.volume) c.applied.ensures c.in_ok-applied.was
 
-pub returns-in_err-apply-clause-refused : goal.returns-in_err-apply-clause-refused
-returns-in_err-apply-clause-refused g c =
+pub returns-in_err-applied-clause-refused : goal.returns-in_err-applied-clause-refused
+returns-in_err-applied-clause-refused g c =
     let p = err_from_is_err_and c.from_residual.result c.from_residual.ensures.1 in
     rw (p.1, p.2) (λ w means.
-    plain_refused c.args.number c.apply.result c.in_err-apply.field-0.0 w (g.V.Volume.means c.args.volume.now)
-    (g.V.Volume.means c.apply.new.self) c.apply.ensures c.in_err-apply.was means)
+    plain_refused c.args.number c.applied.result c.in_err-applied.field-0.0 w (g.V.Volume.means c.args.volume.now)
+    (g.V.Volume.means c.applied.new.volume) c.applied.ensures c.in_err-applied.was means)

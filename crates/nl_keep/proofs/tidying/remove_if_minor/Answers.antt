@@ -9,6 +9,6 @@ returns-then-not-is_plain_minor-clause-taken g c =
 
 pub returns-clause-taken : goal.returns-clause-taken
 returns-clause-taken g c =
-    minor_goes c.args.row.now c.apply.result c.in_ok-apply.field-0 (g.V.Volume.means c.args.volume.now)
-    (g.V.Volume.means c.apply.new.self) (sym c.is_plain_minor.ensures ∙ c.if-not-is_plain_minor.false)
-    c.apply.ensures c.in_ok-apply.was
+    minor_goes c.args.row.now c.applied.result c.in_ok-applied.field-0 (g.V.Volume.means c.args.volume.now)
+    (g.V.Volume.means c.applied.new.volume) (sym c.is_plain_minor.ensures ∙ c.if-not-is_plain_minor.false)
+    c.applied.ensures c.in_ok-applied.was

@@ -9,20 +9,20 @@ use Rattle.nl_lib.proofs.asks.list.Goals as goal
 
 pub names_listed-requires : goal.names_listed-requires
 names_listed-requires g c =
-    names-reply c.args.pen.now c.apply.new.self c.means_a_world.ensures c.in-Ok.path c.apply.result
-    c.apply.ensures
+    names-reply c.args.pen.now c.applied.new.pen c.means_a_world.ensures c.in-Ok.path c.applied.result
+    c.applied.ensures
 
 pub returns : goal.returns
 returns g c =
     let old = c.args.pen.now in
-    let new = c.apply.new.self in
+    let new = c.applied.new.pen in
     record {
       does =
           subst (λ (path : List ℕ). Does unshared old (event.Read (ask.List path))
           (reply_with answer.Names c.names_listed.result) new) c.in-Ok.ensures
-          (has-answered answer.Names old new (event.Read (ask.List c.in-Ok.path)) c.apply.result
-          c.names_listed.result c.apply.ensures c.names_listed.ensures);
-      same = read-stays old new (ask.List c.in-Ok.path) c.apply.result c.apply.ensures;
+          (has-answered answer.Names old new (event.Read (ask.List c.in-Ok.path)) c.applied.result
+          c.names_listed.result c.applied.ensures c.names_listed.ensures);
+      same = read-stays old new (ask.List c.in-Ok.path) c.applied.result c.applied.ensures;
     }
 
 pub returns-in_default-clause-does : goal.returns-in_default-clause-does

@@ -10,21 +10,21 @@ use Rattle.nl_lib.proofs.asks.read.Goals as goal
 
 pub bytes_read-requires : goal.bytes_read-requires
 bytes_read-requires g c =
-    bytes-reply c.args.pen.now c.apply.new.self c.means_a_world.ensures c.in-Ok.path c.args.offset c.args.len
-    c.apply.result c.apply.ensures
+    bytes-reply c.args.pen.now c.applied.new.pen c.means_a_world.ensures c.in-Ok.path c.args.offset c.args.len
+    c.applied.result c.applied.ensures
 
 pub returns : goal.returns
 returns g c =
     let old = c.args.pen.now in
-    let new = c.apply.new.self in
+    let new = c.applied.new.pen in
     let asked : Ask = ask.Bytes c.in-Ok.path c.args.offset c.args.len in
     record {
       does =
           subst (λ (path : List ℕ). Does unshared old (event.Read (ask.Bytes path c.args.offset c.args.len))
           (reply_with answer.Bytes c.bytes_read.result) new) c.in-Ok.ensures
-          (has-answered answer.Bytes old new (event.Read asked) c.apply.result c.bytes_read.result
-          c.apply.ensures c.bytes_read.ensures);
-      same = read-stays old new asked c.apply.result c.apply.ensures;
+          (has-answered answer.Bytes old new (event.Read asked) c.applied.result c.bytes_read.result
+          c.applied.ensures c.bytes_read.ensures);
+      same = read-stays old new asked c.applied.result c.applied.ensures;
     }
 
 pub returns-in_default-clause-does : goal.returns-in_default-clause-does

@@ -9,18 +9,18 @@ use Rattle.nl_lib.proofs.asks.stat.Goals as goal
 
 pub stat_told-requires : goal.stat_told-requires
 stat_told-requires g c =
-    stat-reply c.args.pen.now c.apply.new.self c.means_a_world.ensures c.in-Ok.path c.apply.result
-    c.apply.ensures
+    stat-reply c.args.pen.now c.applied.new.pen c.means_a_world.ensures c.in-Ok.path c.applied.result
+    c.applied.ensures
 
 pub returns : goal.returns
 returns g c =
     let old = c.args.pen.now in
-    let new = c.apply.new.self in
+    let new = c.applied.new.pen in
     record {
       does =
           inl (subst (λ (path : List ℕ). Does unshared old (event.Read (ask.Stat path))
           (reply_with answer.Stat c.stat_told.result) new) c.in-Ok.ensures
-          (has-answered answer.Stat old new (event.Read (ask.Stat c.in-Ok.path)) c.apply.result
-          c.stat_told.result c.apply.ensures c.stat_told.ensures));
-      same = read-stays old new (ask.Stat c.in-Ok.path) c.apply.result c.apply.ensures;
+          (has-answered answer.Stat old new (event.Read (ask.Stat c.in-Ok.path)) c.applied.result
+          c.stat_told.result c.applied.ensures c.stat_told.ensures));
+      same = read-stays old new (ask.Stat c.in-Ok.path) c.applied.result c.applied.ensures;
     }

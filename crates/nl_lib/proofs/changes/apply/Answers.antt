@@ -3,5 +3,5 @@ use Rattle.nl_lib.proofs.changes.apply.Goals as goal
 
 pub returns : goal.returns
 returns g c =
-    is_done c.args.pen.now c.apply.new.self c.args.event c.apply.result c.without_answer.result c.apply.ensures
+    is_done c.args.pen.now c.applied.new.pen c.args.event c.applied.result c.without_answer.result c.applied.ensures
     c.without_answer.ensures

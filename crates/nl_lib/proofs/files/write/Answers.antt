@@ -10,13 +10,13 @@ use Rattle.nl_lib.proofs.files.write.Goals as goal
 
 pub written-requires : goal.written-requires
 written-requires g c =
-    write-reply c.args.pen.now c.apply.new.self c.means_a_world.ensures c.in-Ok.path c.args.offset c.in-Ok.bytes
-    c.apply.result c.apply.ensures
+    write-reply c.args.pen.now c.applied.new.pen c.means_a_world.ensures c.in-Ok.path c.args.offset c.in-Ok.bytes
+    c.applied.result c.applied.ensures
 
 pub returns : goal.returns
 returns g c =
     let old = c.args.pen.now in
-    let new = c.apply.new.self in
+    let new = c.applied.new.pen in
     let reply : Reply = reply_with answer.Written c.written.result in
     subst (λ (bytes : List ℕ).
     Does unshared old (event.Apply (change.Write c.args.path.now c.args.offset bytes)) reply new)
@@ -25,8 +25,8 @@ returns g c =
     Does unshared old (event.Apply (change.Write path c.args.offset c.in-Ok.bytes)) reply new)
     c.in-Ok.ensures.first
     (has-answered answer.Written old new
-    (event.Apply (change.Write c.in-Ok.path c.args.offset c.in-Ok.bytes)) c.apply.result c.written.result
-    c.apply.ensures c.written.ensures))
+    (event.Apply (change.Write c.in-Ok.path c.args.offset c.in-Ok.bytes)) c.applied.result c.written.result
+    c.applied.ensures c.written.ensures))
 
 pub returns-in_default : goal.returns-in_default
 returns-in_default g c =

@@ -2,4 +2,4 @@ use Rattle.nl_mounts.proofs.Replies.{has_done}
 use Rattle.nl_mounts.proofs.shared.Shared.change_cpmode.Goals as goal
 
 pub returns : goal.returns
-returns g c = has_done _ c.apply.result c.without_answer.result c.apply.ensures c.without_answer.ensures
+returns g c = has_done _ c.applied.result c.without_answer.result c.applied.ensures c.without_answer.ensures

@@ -10,4 +10,4 @@ pub returns : goal.returns
 returns g c =
     inl (subst (λ (d : Change). HasDone (event.Apply d) c.without_answer.result)
     (c.change.ensures ∙ ap (change_at c.args.call) c.in-Ok.ensures)
-    (has_done _ c.apply.result c.without_answer.result c.apply.ensures c.without_answer.ensures))
+    (has_done _ c.applied.result c.without_answer.result c.applied.ensures c.without_answer.ensures))

@@ -3,7 +3,7 @@ use Rattle.nl_mounts.proofs.Replies.{has_answered, range_reply}
 use Rattle.nl_mounts.proofs.shared.Shared.remove_checkpoints.Goals as goal
 
 pub range_removed-requires : goal.range_removed-requires
-range_removed-requires g c = range_reply c.locked_runs_lead_on.ensures c.args.first c.args.last c.apply.result c.apply.ensures
+range_removed-requires g c = range_reply c.locked_runs_lead_on.ensures c.args.first c.args.last c.applied.result c.applied.ensures
 
 pub returns : goal.returns
-returns g c = has_answered answer.Removed _ c.apply.result c.range_removed.result c.apply.ensures c.range_removed.ensures
+returns g c = has_answered answer.Removed _ c.applied.result c.range_removed.result c.applied.ensures c.range_removed.ensures

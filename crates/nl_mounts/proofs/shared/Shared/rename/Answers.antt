@@ -11,4 +11,4 @@ returns g c =
     c.in-Ok.ensures.second
     (subst (λ (from : List ℕ). HasDone (event.Apply (change.Rename from c.in-Ok.to)) c.without_answer.result)
     c.in-Ok.ensures.first
-    (has_done _ c.apply.result c.without_answer.result c.apply.ensures c.without_answer.ensures)))
+    (has_done _ c.applied.result c.without_answer.result c.applied.ensures c.without_answer.ensures)))

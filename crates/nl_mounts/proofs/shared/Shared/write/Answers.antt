@@ -8,8 +8,8 @@ use Rattle.nl_mounts.proofs.shared.Shared.write.Goals as goal
 
 pub written-requires : goal.written-requires
 written-requires g c =
-    write_reply c.locked_runs_lead_on.ensures c.in-Ok.path c.args.offset c.in-Ok.bytes c.apply.result
-    c.apply.ensures
+    write_reply c.locked_runs_lead_on.ensures c.in-Ok.path c.args.offset c.in-Ok.bytes c.applied.result
+    c.applied.ensures
 
 pub returns : goal.returns
 returns g c =
@@ -19,4 +19,4 @@ returns g c =
     (subst (λ (path : List ℕ).
     HasAnswered answer.Written (event.Apply (change.Write path c.args.offset c.in-Ok.bytes)) c.written.result)
     c.in-Ok.ensures.first
-    (has_answered answer.Written _ c.apply.result c.written.result c.apply.ensures c.written.ensures)))
+    (has_answered answer.Written _ c.applied.result c.written.result c.applied.ensures c.written.ensures)))
