@@ -1,5 +1,5 @@
 //! How much the tree of a checkpoint has, by its names and sizes alone.
-use nl_folders::{Folder, FolderError, Path, spelled, with_name};
+use nl_folders::{Folder, FolderError, Name, Path, spelled, with_name};
 use nl_keep::{CheckpointFolder, Volume};
 use nl_types::{Answer, Ask, CheckpointNumber, Items, Kind, Reply, Stat, VolError};
 use std::alloc::Global;
@@ -14,23 +14,40 @@ pub struct Amount {
     pub bytes: u64,
 }
 
-/// The size that was asked for.
-fn size_in(reply: Reply) -> Result<u64, FolderError> {
-    match reply {
-        Ok(Answer::Stat(Stat::File(size))) => Ok(size),
-        Ok(_) => Err(FolderError::Disordered),
-        Err(error) => Err(FolderError::Refused(error)),
+/// How many bytes the file has of which a `stat` tells.
+fn size_in(answer: &Answer) -> Option<u64> {
+    match answer {
+        Answer::Stat(Stat::File(size)) => Some(*size),
+        _ => None,
     }
 }
 
-/// How many bytes a file of a checkpoint has.
+fn size_told(reply: Reply) -> Result<Option<u64>, VolError> {
+    let answer = reply?;
+    Ok(size_in(&answer))
+}
+
+/// How many bytes the file at a path of a kept checkpoint has. None where no file stands there.
+pub fn size_at<V: Volume>(
+    alloc: Global,
+    volume: &V,
+    number: CheckpointNumber,
+    path: &[Name],
+) -> Result<Option<u64>, VolError> {
+    let path = spelled(alloc, path)?;
+    size_told(volume.read_at(number, &Ask::Stat { path }))
+}
+
 fn size_of<V: Volume>(
     alloc: Global,
     folder: &CheckpointFolder<'_, V>,
-    path: &Path,
+    path: &[Name],
 ) -> Result<u64, FolderError> {
-    let path = spelled(alloc, path.as_slice())?;
-    size_in(folder.volume.read_at(folder.number, &Ask::Stat { path }))
+    match size_at(alloc, folder.volume, folder.number, path) {
+        Ok(Some(size)) => Ok(size),
+        Ok(None) => Err(FolderError::Disordered),
+        Err(error) => Err(FolderError::Refused(error)),
+    }
 }
 
 /// Adds what stands under a name of a directory. A directory there is looked at later.
@@ -46,7 +63,7 @@ fn add<V: Volume>(
     match kind {
         Kind::Directory => pending.push(path)?,
         Kind::File => {
-            let size = size_of(alloc, folder, &path)?;
+            let size = size_of(alloc, folder, path.as_slice())?;
             amount.bytes = amount.bytes.saturating_add(size);
         }
     }

@@ -1,28 +1,26 @@
 //! `tar` and `untar`: a checkpoint's tree as an archive, and the tree of an archive as the next snapshot.
-use crate::asking::{Clock, Outcome, moment, most, word};
+use crate::asking::{Clock, Outcome, word};
 use crate::faults::{Fault, fault_at};
 use crate::images::take_place;
-use crate::parts::{part_wanted, path_said};
-use crate::printing::{Printer, tell_paths_left_out, tell_refused};
+use crate::parts::part_wanted;
+use crate::printing::{Printer, tell_paths_left_out, tell_refused_below};
 use crate::progress::Progress;
-use crate::storing::{Wanted, keep};
-use crate::unpacking::{INPUT, Kept, input_fault, kept_of};
+use crate::storing::{Gathered, Keeping};
+use crate::unpacking::{INPUT, input_fault, kept_of};
 use crate::views::View;
 use clap::ArgMatches;
+use nl_folders::Path;
+use nl_manifests::{HostEntry, Opened};
+use nl_saving::SavePlace;
+use std::alloc::Global;
 use std::io::{IsTerminal, Write};
 
-/// Writes the archive of what a checkpoint shows, or of what lies at and below a path of it.
-pub fn tar<W: Write>(
-    rt: &HostRuntime,
-    matches: &ArgMatches<'_>,
-    clock: Clock<'_>,
-    view: &View<'_>,
+/// Writes an archive to what is no terminal.
+fn write_archive<W: Write>(
+    alloc: Global,
+    part: &[(Path, HostEntry)],
     printer: &mut Printer<W>,
-) -> Result<Outcome, Fault> {
-    let alloc = rt.alloc();
-    let top = matches.get_str("PATH").unwrap_or("");
-    let opened = view.opened(alloc, word(matches, "CNO"), clock)?;
-    let part = part_wanted(alloc, opened.tree, top)?;
+) -> Result<(), Fault> {
     if printer.is_terminal {
         return Err(fault_at(
             alloc,
@@ -30,9 +28,24 @@ pub fn tar<W: Write>(
             "is a terminal, and an archive is no text",
         ));
     }
-    nl_tar::write(alloc, part.as_slice(), &mut printer.out)?;
-    let top = path_said(alloc, top)?;
-    let is_whole = tell_refused(rt, opened.refused.as_slice(), top.as_slice());
+    nl_tar::write(alloc, part, &mut printer.out)?;
+    Ok(())
+}
+
+/// Writes the archive of what a checkpoint shows, or of what lies at and below a path of it.
+pub fn tar<W: Write>(
+    rt: &HostRuntime,
+    matches: &ArgMatches<'_>,
+    clock: &Clock<'_>,
+    view: &View<'_>,
+    printer: &mut Printer<W>,
+) -> Result<Outcome, Fault> {
+    let alloc = rt.alloc();
+    let top = word(matches, "PATH");
+    let Opened { tree, refused } = view.opened(alloc, word(matches, "CNO"), clock)?;
+    let part = part_wanted(alloc, tree, top)?;
+    write_archive(alloc, part.as_slice(), printer)?;
+    let is_whole = tell_refused_below(rt, refused.as_slice(), top)?;
     Ok(Outcome::of(is_whole))
 }
 
@@ -49,7 +62,7 @@ fn judge_input(rt: &HostRuntime) -> Result<(), Fault> {
 }
 
 /// What is kept of the archive that comes from standard input. What is left out is told.
-fn unpacked(rt: &HostRuntime, progress: &mut Progress<'_>) -> Result<Kept, Fault> {
+fn unpacked(rt: &HostRuntime, progress: &mut Progress<'_>) -> Result<Gathered, Fault> {
     let alloc = rt.alloc();
     judge_input(rt)?;
     progress.tell("reading the archive");
@@ -60,25 +73,32 @@ fn unpacked(rt: &HostRuntime, progress: &mut Progress<'_>) -> Result<Kept, Fault
     progress.end();
     let kept = kept?;
     tell_paths_left_out(rt, kept.left_out.as_slice());
-    Ok(kept)
+    Ok(Gathered {
+        tree: kept.tree,
+        is_whole: kept.left_out.is_empty(),
+    })
+}
+
+fn untar_into<W: Write>(
+    rt: &HostRuntime,
+    matches: &ArgMatches<'_>,
+    clock: &Clock<'_>,
+    place: &mut SavePlace<'_>,
+    printer: &mut Printer<W>,
+) -> Result<Outcome, Fault> {
+    let keeping = Keeping::said(rt, matches, clock)?;
+    let mut progress = Progress::begin(rt);
+    let gathered = unpacked(rt, &mut progress)?;
+    keeping.keep_gathered(rt, clock, gathered, &mut progress, place, printer)
 }
 
 /// Keeps the tree of an archive as the next snapshot.
 pub fn untar<W: Write>(
     rt: &HostRuntime,
     matches: &ArgMatches<'_>,
-    clock: Clock<'_>,
+    clock: &Clock<'_>,
     printer: &mut Printer<W>,
 ) -> Result<Outcome, Fault> {
-    let path = word(matches, "IMAGE");
-    let mut place = take_place(rt, path)?;
-    let moment = moment(rt, matches, clock.now)?;
-    let most = most(rt, matches)?;
-    let mut progress = Progress::begin(rt);
-    let Kept { tree, left_out } = unpacked(rt, &mut progress)?;
-    progress.tell("storing");
-    let wanted = Wanted { tree, moment, most };
-    let kept = keep(rt, path, clock, wanted, &mut place, printer);
-    progress.end();
-    Ok(kept?.and(Outcome::of(left_out.is_empty())))
+    let mut place = take_place(rt, word(matches, "IMAGE"))?;
+    untar_into(rt, matches, clock, &mut place, printer)
 }

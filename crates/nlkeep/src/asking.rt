@@ -48,7 +48,7 @@ impl Outcome {
     }
 }
 
-/// A word that is required, so it is there.
+/// A word, empty where none is given.
 pub fn word<'a>(matches: &ArgMatches<'a>, id: &str) -> &'a str {
     matches.get_str(id).unwrap_or("")
 }

@@ -1,19 +1,17 @@
 //! `backup`: the volume's tree becomes that of a folder of the host, and is kept as the next snapshot.
-use crate::asking::{Clock, Outcome, moment, most, word};
+use crate::asking::{Clock, Outcome, word};
 use crate::comparing::tell_differences;
 use crate::faults::Fault;
-use crate::images::{open_at, take_place};
+use crate::images::take_place;
 use crate::printing::{Printer, tell_left_out};
 use crate::progress::Progress;
 use crate::scanning::{Scan, Source, scan_folder};
-use crate::storing::{Wanted, keep};
+use crate::storing::{Gathered, Keeping};
 use crate::views::View;
 use clap::ArgMatches;
-use nl_device::MemDevice;
-use nl_folders::Path;
+use nl_folders::Tree;
 use nl_host::Pattern;
-use nl_keep_pen::PenVolume;
-use nl_types::Object;
+use nl_saving::SavePlace;
 use std::alloc::{AllocError, Global};
 use std::io::Write;
 
@@ -27,85 +25,69 @@ fn patterns<'a>(alloc: Global, matches: &ArgMatches<'a>) -> Result<Vec<Pattern<'
 }
 
 /// What is to be kept of the folder that a command names. What is left out is told.
-fn scan_asked(
+fn gathered(
     rt: &HostRuntime,
     matches: &ArgMatches<'_>,
     progress: &mut Progress<'_>,
-) -> Result<Scan, Fault> {
+) -> Result<Gathered, Fault> {
     let excluded = patterns(rt.alloc(), matches)?;
     let source = Source {
         folder: word(matches, "FOLDER"),
         excluded: excluded.as_slice(),
         is_plain: matches.get_flag("plain"),
     };
-    let scan = scan_folder(rt, source, word(matches, "IMAGE"), progress)?;
+    let Scan { tree, left_out } = scan_folder(rt, source, word(matches, "IMAGE"), progress)?;
     progress.end();
-    tell_left_out(rt, scan.left_out.as_slice());
-    Ok(scan)
+    tell_left_out(rt, left_out.as_slice());
+    Ok(Gathered {
+        tree,
+        is_whole: left_out.is_empty(),
+    })
 }
 
-/// Tells what differs from a volume's latest checkpoint to a tree.
-fn compare<W: Write>(
-    rt: &HostRuntime,
-    path: &str,
-    clock: Clock<'_>,
-    volume: &mut PenVolume<MemDevice>,
-    tree: &[(Path, Object)],
-    printer: &mut Printer<W>,
-) -> Result<(), Fault> {
-    let alloc = rt.alloc();
-    let view = View::of(rt, path, volume, clock)?;
-    let present = view.present_tree(alloc)?;
-    tell_differences(alloc, present.as_slice(), tree, printer)?;
-    Ok(())
-}
-
-/// The same of the volume of an image.
-fn compare_with_image<W: Write>(
-    rt: &HostRuntime,
-    path: &str,
-    clock: Clock<'_>,
-    tree: &[(Path, Object)],
-    printer: &mut Printer<W>,
-) -> Result<(), Fault> {
-    match open_at(rt, path) {
-        Ok(pen) => compare(rt, path, clock, &mut PenVolume { pen }, tree, printer),
-        Err(fault) => Err(fault),
-    }
+/// The tree of the latest checkpoint of the image at a path. A late date is told.
+fn present_tree(rt: &HostRuntime, path: &str, clock: &Clock<'_>) -> Result<Tree, Fault> {
+    let view = View::at(rt, path)?;
+    view.tell_late(rt, clock)?;
+    view.present_tree(rt.alloc())
 }
 
 /// Tells what a backup would change.
 fn rehearse<W: Write>(
     rt: &HostRuntime,
     matches: &ArgMatches<'_>,
-    clock: Clock<'_>,
+    clock: &Clock<'_>,
     printer: &mut Printer<W>,
 ) -> Result<Outcome, Fault> {
-    let scan = scan_asked(rt, matches, &mut Progress::begin(rt))?;
-    let path = word(matches, "IMAGE");
-    compare_with_image(rt, path, clock, scan.tree.as_slice(), printer)?;
-    Ok(Outcome::of(scan.left_out.is_empty()))
+    let Gathered { tree, is_whole } = gathered(rt, matches, &mut Progress::begin(rt))?;
+    let present = present_tree(rt, word(matches, "IMAGE"), clock)?;
+    tell_differences(rt.alloc(), present.as_slice(), tree.as_slice(), printer)?;
+    Ok(Outcome::of(is_whole))
+}
+
+fn backup_into<W: Write>(
+    rt: &HostRuntime,
+    matches: &ArgMatches<'_>,
+    clock: &Clock<'_>,
+    place: &mut SavePlace<'_>,
+    printer: &mut Printer<W>,
+) -> Result<Outcome, Fault> {
+    let keeping = Keeping::said(rt, matches, clock)?;
+    let mut progress = Progress::begin(rt);
+    let gathered = gathered(rt, matches, &mut progress)?;
+    keeping.keep_gathered(rt, clock, gathered, &mut progress, place, printer)
 }
 
 /// Keeps a folder as the next snapshot, or tells what that would change.
 pub fn backup<W: Write>(
     rt: &HostRuntime,
     matches: &ArgMatches<'_>,
-    clock: Clock<'_>,
+    clock: &Clock<'_>,
     printer: &mut Printer<W>,
 ) -> Result<Outcome, Fault> {
     if matches.get_flag("dry-run") {
         return rehearse(rt, matches, clock, printer);
     }
-    let path = word(matches, "IMAGE");
-    let mut place = take_place(rt, path)?;
-    let moment = moment(rt, matches, clock.now)?;
-    let most = most(rt, matches)?;
-    let mut progress = Progress::begin(rt);
-    let Scan { tree, left_out } = scan_asked(rt, matches, &mut progress)?;
-    progress.tell("storing");
-    let wanted = Wanted { tree, moment, most };
-    let kept = keep(rt, path, clock, wanted, &mut place, printer);
-    progress.end();
-    Ok(kept?.and(Outcome::of(left_out.is_empty())))
+    let mut place = take_place(rt, word(matches, "IMAGE"))?;
+    backup_into(rt, matches, clock, &mut place, printer)
 }

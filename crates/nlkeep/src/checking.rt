@@ -110,17 +110,17 @@ pub struct Told<'a> {
     /// The first condition that fails. None of a sound image.
     pub failing: Option<u8>,
     /// What is judged of the later ones, where that is asked.
-    pub judged: Option<Judged>,
+    pub judged: Option<&'a Judged>,
 }
 
 impl Told<'_> {
     /// Whether all conditions hold, and no segment differs from the sum.
-    pub fn is_sound(self) -> bool {
+    pub fn is_sound(&self) -> bool {
         self.failing.is_none() && differing(self.summed).is_empty()
     }
 
     /// How many conditions are told behind the first that fails.
-    pub fn later(self, first: u8) -> u8 {
+    pub fn later(&self, first: u8) -> u8 {
         if self.judged.is_some() {
             LAST.saturating_sub(first)
         } else {
@@ -129,7 +129,7 @@ impl Told<'_> {
     }
 
     /// The condition that is the first to fail, and where.
-    pub fn first(self, alloc: Global, first: u8) -> Result<Judgement, AllocError> {
+    pub fn first(&self, alloc: Global, first: u8) -> Result<Judgement, AllocError> {
         let place = place_of(alloc, self.image, first)?;
         Ok(Judgement {
             number: first,
@@ -138,7 +138,7 @@ impl Told<'_> {
     }
 
     /// What is found of the condition that stands at this place behind the first that fails.
-    pub fn judgement(self, alloc: Global, first: u8, place: u8) -> Result<Judgement, AllocError> {
+    pub fn judgement(&self, alloc: Global, first: u8, place: u8) -> Result<Judgement, AllocError> {
         let number = first.saturating_add(place).saturating_add(1);
         let finding = match self.judged {
             Some(judged) => judged.finding(alloc, self.image, number)?,
@@ -148,7 +148,7 @@ impl Told<'_> {
     }
 
     /// The first byte of a segment and the one behind its last. None where the image isn't divided.
-    pub fn place(self, segment: u64) -> Option<(u64, u64)> {
+    pub fn place(&self, segment: u64) -> Option<(u64, u64)> {
         let sections = Sections::of(self.image)?;
         let size = BLOCK_SIZE as u64 * u64::from(sections.geometry.blocks);
         let begin = segment
@@ -158,7 +158,7 @@ impl Told<'_> {
     }
 
     /// Tells which segments differ from the sum, a line each.
-    fn tell_segments<W: Write>(self, printer: &mut Printer<W>) -> io::Result<()> {
+    fn tell_segments<W: Write>(&self, printer: &mut Printer<W>) -> io::Result<()> {
         for segment in differing(self.summed) {
             write!(printer.out, "segment {segment} differs from ")?;
             printer.text(self.sum_path)?;
@@ -171,13 +171,13 @@ impl Told<'_> {
     }
 
     /// Tells what the sum is, in the same line.
-    fn tell_sum<W: Write>(self, printer: &mut Printer<W>) -> io::Result<()> {
+    fn tell_sum<W: Write>(&self, printer: &mut Printer<W>) -> io::Result<()> {
         printer.text(self.sum_path)?;
         writeln!(printer.out, " {}", said_of(self.summed))
     }
 
     /// Tells the sum, or the segments that differ from it.
-    fn tell_difference<W: Write>(self, printer: &mut Printer<W>) -> io::Result<()> {
+    fn tell_difference<W: Write>(&self, printer: &mut Printer<W>) -> io::Result<()> {
         if differing(self.summed).is_empty() {
             self.tell_sum(printer)
         } else {
@@ -186,7 +186,7 @@ impl Told<'_> {
     }
 
     /// Tells that all conditions hold.
-    fn tell_sound<W: Write>(self, printer: &mut Printer<W>) -> io::Result<()> {
+    fn tell_sound<W: Write>(&self, printer: &mut Printer<W>) -> io::Result<()> {
         if !self.is_sound() {
             writeln!(
                 printer.out,
@@ -205,14 +205,14 @@ impl Told<'_> {
 
     /// Tells where a condition fails, with a path of the inode where one is known.
     fn tell_place<W: Write>(
-        self,
+        &self,
         alloc: Global,
-        place: Place,
+        place: &Place,
         printer: &mut Printer<W>,
     ) -> Result<(), Fault> {
         write!(printer.out, "{place}")?;
-        if let Some(path) = path_of(alloc, self.image, &place)? {
-            write!(printer.out, ", ")?;
+        if let Some(path) = path_of(alloc, self.image, place)? {
+            printer.out.write_all(b", ")?;
             printer.path(path.as_slice(), false)?;
         }
         printer.line()?;
@@ -221,19 +221,20 @@ impl Told<'_> {
 
     /// Tells what is found of a condition, and where it fails.
     fn tell_judgement<W: Write>(
-        self,
+        &self,
         alloc: Global,
-        judgement: Judgement,
+        judgement: &Judgement,
         printer: &mut Printer<W>,
     ) -> Result<(), Fault> {
-        let Judgement { number, finding } = judgement;
+        let Judgement { number, finding } = *judgement;
         let text = condition(number);
-        match finding {
-            Finding::Holds => writeln!(printer.out, "condition {number} holds: {text}")?,
-            Finding::NotJudged => writeln!(printer.out, "condition {number}: not judged: {text}")?,
-            Finding::Fails(_) => writeln!(printer.out, "condition {number} fails: {text}")?,
-        }
-        match finding {
+        let what = match finding {
+            Finding::Holds => " holds",
+            Finding::NotJudged => ": not judged",
+            Finding::Fails(_) => " fails",
+        };
+        writeln!(printer.out, "condition {number}{what}: {text}")?;
+        match &judgement.finding {
             Finding::Fails(Some(place)) => self.tell_place(alloc, place, printer),
             _ => Ok(()),
         }
@@ -241,22 +242,22 @@ impl Told<'_> {
 
     /// Tells the condition that is the first to fail, and where, and what is found of the later ones.
     fn tell_failing<W: Write>(
-        self,
+        &self,
         alloc: Global,
         first: u8,
         printer: &mut Printer<W>,
     ) -> Result<(), Fault> {
-        write!(printer.out, ": damaged: ")?;
-        self.tell_judgement(alloc, self.first(alloc, first)?, printer)?;
+        printer.out.write_all(b": damaged: ")?;
+        self.tell_judgement(alloc, &self.first(alloc, first)?, printer)?;
         for place in 0..self.later(first) {
-            self.tell_judgement(alloc, self.judgement(alloc, first, place)?, printer)?;
+            self.tell_judgement(alloc, &self.judgement(alloc, first, place)?, printer)?;
         }
         self.tell_difference(printer)?;
         Ok(())
     }
 
     /// Tells what is found, by lines.
-    fn tell<W: Write>(self, alloc: Global, printer: &mut Printer<W>) -> Result<(), Fault> {
+    fn tell<W: Write>(&self, alloc: Global, printer: &mut Printer<W>) -> Result<(), Fault> {
         printer.text(self.path)?;
         match self.failing {
             Some(first) => self.tell_failing(alloc, first, printer),
@@ -267,8 +268,22 @@ impl Told<'_> {
         }
     }
 
+    /// Tells what is found, by objects of JSON or by lines.
+    fn tell_by<W: Write>(
+        &self,
+        alloc: Global,
+        is_json: bool,
+        printer: &mut Printer<W>,
+    ) -> Result<(), Fault> {
+        if is_json {
+            tell_objects(alloc, self, printer)
+        } else {
+            self.tell(alloc, printer)
+        }
+    }
+
     /// What comes of the command.
-    fn outcome(self) -> Outcome {
+    fn outcome(&self) -> Outcome {
         if self.is_sound() {
             Outcome::Done
         } else {
@@ -278,7 +293,7 @@ impl Told<'_> {
 }
 
 /// Tells a sum that can't be read: what is sound is then so but for it.
-fn with_sum_told(rt: &HostRuntime, told: Told<'_>, outcome: Outcome) -> Outcome {
+fn with_sum_told(rt: &HostRuntime, told: &Told<'_>, outcome: Outcome) -> Outcome {
     if !matches!(told.summed, Summed::Unread) {
         return outcome;
     }
@@ -308,30 +323,39 @@ fn judged_of(
     }
 }
 
+/// Judges an image beside the sum at a path, and tells what is found.
+fn check_image<W: Write>(
+    rt: &HostRuntime,
+    matches: &ArgMatches<'_>,
+    image: &[u8],
+    sum_path: &str,
+    printer: &mut Printer<W>,
+) -> Result<Outcome, Fault> {
+    let alloc = rt.alloc();
+    let path = word(matches, "IMAGE");
+    let failing = failing_of(alloc, path, image)?;
+    let summed = beside_sum(rt, sum_path, image)?;
+    let judged = judged_of(alloc, image, failing, matches.get_flag("all"))?;
+    let told = Told {
+        path,
+        image,
+        sum_path,
+        summed: &summed,
+        failing,
+        judged: judged.as_ref(),
+    };
+    told.tell_by(alloc, matches.get_flag("json"), printer)?;
+    Ok(with_sum_told(rt, &told, told.outcome()))
+}
+
 /// Judges an image, reads its sum, and tells what is found.
 pub fn check<W: Write>(
     rt: &HostRuntime,
     matches: &ArgMatches<'_>,
     printer: &mut Printer<W>,
 ) -> Result<Outcome, Fault> {
-    let alloc = rt.alloc();
     let path = word(matches, "IMAGE");
     let image = read_image(rt, path)?;
-    let sum_path = sum_path(alloc, path)?;
-    let failing = failing_of(alloc, path, image.as_slice())?;
-    let is_all = matches.get_flag("all");
-    let told = Told {
-        path,
-        image: image.as_slice(),
-        sum_path: sum_path.as_str(),
-        summed: &beside_sum(rt, sum_path.as_str(), image.as_slice())?,
-        failing,
-        judged: judged_of(alloc, image.as_slice(), failing, is_all)?,
-    };
-    if matches.get_flag("json") {
-        tell_objects(alloc, told, printer)?;
-    } else {
-        told.tell(alloc, printer)?;
-    }
-    Ok(with_sum_told(rt, told, told.outcome()))
+    let sum_path = sum_path(rt.alloc(), path)?;
+    check_image(rt, matches, image.as_slice(), sum_path.as_str(), printer)
 }

@@ -1,7 +1,7 @@
 //! Which checkpoints a volume keeps, and which of them a word means.
+use crate::asking::Clock;
 use crate::faults::{Fault, fault_at, volume_fault};
 use crate::moments::moment_said;
-use jiff::tz::TimeZone;
 use nl_core::Pen;
 use nl_device::MemDevice;
 use nl_types::{
@@ -53,10 +53,9 @@ fn by_date(
     alloc: Global,
     word: &str,
     rows: &[Row],
-    now: u64,
-    zone: TimeZone<'_>,
+    clock: &Clock<'_>,
 ) -> Result<CheckpointNumber, Fault> {
-    let Some(moment) = moment_said(word, now, zone) else {
+    let Some(moment) = moment_said(word, clock.now, &clock.zone) else {
         return Err(fault_at(alloc, word, "neither a number, nor latest, nor a date"));
     };
     match latest_until(rows, moment) {
@@ -71,8 +70,7 @@ pub fn meant(
     alloc: Global,
     word: &str,
     rows: &[Row],
-    now: u64,
-    zone: TimeZone<'_>,
+    clock: &Clock<'_>,
 ) -> Result<CheckpointNumber, Fault> {
     if let Some(number) = decimal(word) {
         return Ok(CheckpointNumber::new(number));
@@ -83,5 +81,5 @@ pub fn meant(
             None => Err(fault_at(alloc, word, "all checkpoints are minor")),
         };
     }
-    by_date(alloc, word, rows, now, zone)
+    by_date(alloc, word, rows, clock)
 }

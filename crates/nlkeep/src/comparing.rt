@@ -3,12 +3,12 @@ use crate::faults::{Fault, tree_fault};
 use crate::json::{DifferenceObject, object};
 use crate::printing::{Printer, Seen};
 use crate::views::{View, shown_alone};
-use nl_folders::{Name, Path, all_differences, begins_with, find_in};
+use nl_folders::{Difference, Name, Path, all_differences, begins_with, find_in};
 use nl_keep_pen::checkpoint_differences;
 use nl_manifests::{HostDifference, HostTree, host_differences};
 use nl_types::{CheckpointNumber, Items, Object};
-use std::alloc::Global;
-use std::io::Write;
+use std::alloc::{AllocError, Global};
+use std::io::{self, Write};
 
 /// A tree of a volume, and what it shows but for the bytes of files.
 #[derive(Drop)]
@@ -34,6 +34,34 @@ impl<'t> Side<'t> {
     }
 }
 
+/// All that differs from what one tree shows to what another one does, in the order of the paths.
+fn differences(
+    alloc: Global,
+    old: &Side<'_>,
+    new: &Side<'_>,
+) -> Result<Items<(Path, HostDifference)>, AllocError> {
+    let of_objects = all_differences(alloc, old.tree, new.tree)?;
+    host_differences(
+        alloc,
+        old.shown.as_slice(),
+        new.shown.as_slice(),
+        of_objects.as_slice(),
+    )
+}
+
+fn tell_lines<W: Write>(
+    old: &Side<'_>,
+    new: &Side<'_>,
+    all: &[(Path, HostDifference)],
+    printer: &mut Printer<W>,
+) -> io::Result<()> {
+    for (path, difference) in all {
+        let path = path.as_slice();
+        printer.difference(path, *difference, old.at(path), new.at(path))?;
+    }
+    Ok(())
+}
+
 /// Tells what differs from what one tree shows to what another one does, in the order of the paths, a line
 /// each. Answers how many paths that are.
 pub fn tell_differences<W: Write>(
@@ -42,27 +70,11 @@ pub fn tell_differences<W: Write>(
     new: &[(Path, Object)],
     printer: &mut Printer<W>,
 ) -> Result<usize, Fault> {
-    let of_objects = all_differences(alloc, old, new)?;
     let old = Side::of(alloc, old)?;
     let new = Side::of(alloc, new)?;
-    let all = host_differences(
-        alloc,
-        old.shown.as_slice(),
-        new.shown.as_slice(),
-        of_objects.as_slice(),
-    )?;
-    for (path, difference) in all.as_slice() {
-        let path = path.as_slice();
-        printer.difference(path, *difference, old.at(path), new.at(path))?;
-    }
+    let all = differences(alloc, &old, &new)?;
+    tell_lines(&old, &new, all.as_slice(), printer)?;
     Ok(all.len())
-}
-
-/// Two kept checkpoints of a volume.
-#[derive(Clone, Copy)]
-pub struct Pair {
-    pub old: CheckpointNumber,
-    pub new: CheckpointNumber,
 }
 
 /// What two kept checkpoints show, but for the bytes of files, and all that differs.
@@ -73,45 +85,82 @@ struct Compared {
     all: Items<(Path, HostDifference)>,
 }
 
-/// Compares two kept checkpoints. It reads manifests, and no file that both have by one inode.
-fn compare_pair(alloc: Global, view: &View<'_>, pair: Pair) -> Result<Compared, Fault> {
-    let of_objects = match checkpoint_differences(alloc, view.volume, pair.old, pair.new) {
-        Ok(all) => all,
-        Err(error) => return Err(tree_fault(alloc, view.path, error)),
-    };
-    let old = view.shown(alloc, pair.old)?.tree;
-    let new = view.shown(alloc, pair.new)?.tree;
-    let all = host_differences(alloc, old.as_slice(), new.as_slice(), of_objects.as_slice())?;
-    Ok(Compared { old, new, all })
+/// Two kept checkpoints of a volume that are compared.
+#[derive(Clone, Copy)]
+pub struct Comparing<'a> {
+    pub view: &'a View<'a>,
+    pub old: CheckpointNumber,
+    pub new: CheckpointNumber,
+    /// Nothing is told but of what lies at and below it.
+    pub top: &'a [Name],
+    /// Whether it is told by objects.
+    pub is_json: bool,
 }
 
-/// Tells what differs from one checkpoint to another at and below a path, as `tell_differences` does, with what
-/// is left of the paths there, or by an object each.
-pub fn tell_checkpoint_differences<W: Write>(
-    alloc: Global,
-    view: &View<'_>,
-    pair: Pair,
-    top: &[Name],
-    is_json: bool,
-    printer: &mut Printer<W>,
-) -> Result<usize, Fault> {
-    let (earlier, later) = (pair.old, pair.new);
-    let Compared { old, new, all } = compare_pair(alloc, view, pair)?;
-    let mut count: usize = 0;
-    for (path, difference) in all.as_slice() {
-        let path = path.as_slice();
-        if begins_with(path, top) {
-            let before = view.seen(alloc, earlier, old.as_slice(), path)?;
-            let after = view.seen(alloc, later, new.as_slice(), path)?;
-            let rest = &path[top.len()..];
-            if is_json {
-                let told = DifferenceObject::of(alloc, rest, *difference, before, after)?;
-                object(alloc, &told, printer)?;
-            } else {
-                printer.difference(rest, *difference, before, after)?;
-            }
-            count = count.saturating_add(1);
+impl Comparing<'_> {
+    fn of_objects(&self, alloc: Global) -> Result<Items<(Path, Difference)>, Fault> {
+        match checkpoint_differences(alloc, self.view.volume(), self.old, self.new) {
+            Ok(all) => Ok(all),
+            Err(error) => Err(tree_fault(alloc, self.view.path, error)),
         }
     }
-    Ok(count)
+
+    /// It reads manifests, and no file that both have by one inode.
+    fn compared(&self, alloc: Global) -> Result<Compared, Fault> {
+        let of_objects = self.of_objects(alloc)?;
+        let old = self.view.shown_tree(alloc, self.old)?;
+        let new = self.view.shown_tree(alloc, self.new)?;
+        let all = host_differences(alloc, old.as_slice(), new.as_slice(), of_objects.as_slice())?;
+        Ok(Compared { old, new, all })
+    }
+
+    /// Tells what differs at a path, by what is left of it.
+    fn tell_one<W: Write>(
+        &self,
+        alloc: Global,
+        compared: &Compared,
+        path: &[Name],
+        rest: &[Name],
+        difference: HostDifference,
+        printer: &mut Printer<W>,
+    ) -> Result<(), Fault> {
+        let old = self
+            .view
+            .seen(alloc, self.old, compared.old.as_slice(), path)?;
+        let new = self
+            .view
+            .seen(alloc, self.new, compared.new.as_slice(), path)?;
+        if self.is_json {
+            let told = DifferenceObject::of(alloc, rest, difference, old, new)?;
+            return object(alloc, &told, printer);
+        }
+        printer.difference(rest, difference, old, new)?;
+        Ok(())
+    }
+
+    fn tell_all<W: Write>(
+        &self,
+        alloc: Global,
+        compared: &Compared,
+        printer: &mut Printer<W>,
+    ) -> Result<usize, Fault> {
+        let top = self.top;
+        let mut count: usize = 0;
+        for (path, difference) in compared.all.as_slice() {
+            let path = path.as_slice();
+            if begins_with(path, top) {
+                let rest = &path[top.len()..];
+                self.tell_one(alloc, compared, path, rest, *difference, printer)?;
+                count = count.saturating_add(1);
+            }
+        }
+        Ok(count)
+    }
+
+    /// Tells what differs from one checkpoint to another, as `tell_differences` does, with what is left of the
+    /// paths.
+    pub fn tell<W: Write>(&self, alloc: Global, printer: &mut Printer<W>) -> Result<usize, Fault> {
+        let compared = self.compared(alloc)?;
+        self.tell_all(alloc, &compared, printer)
+    }
 }

@@ -2,27 +2,25 @@
 use crate::asking::{Clock, Outcome, most, word};
 use crate::checkpoints::is_minor;
 use crate::faults::{Fault, system_fault, volume_fault};
-use crate::images::{open_at, open_image, read_image, save_image, take_place};
+use crate::images::{open_image, read_image, save_image, take_place};
 use crate::making::new_image;
 use crate::moments::shown;
 use crate::printing::Printer;
 use crate::storing::{Stores, Wanted, store_in};
-use crate::views::{View, latest_stamp, pins_file};
+use crate::views::{View, latest_stamp};
 use clap::ArgMatches;
 use nl_core::Pen;
 use nl_device::MemDevice;
-use nl_keep_pen::PenVolume;
 use nl_pins::with_pins;
 use nl_saving::SavePlace;
-use nl_types::{CheckpointNumber, Event, Items, Mode, Row, VolError};
-use std::alloc::Global;
+use nl_types::{CheckpointNumber, Event, Items, Mode, Row, VolError, without_answer};
+use std::alloc::{AllocError, Global};
 use std::fs;
 use std::io::{ErrorKind, Write};
 
-/// The image that checkpoints come into.
+/// What stands in the image that checkpoints come into.
 #[derive(Drop)]
 struct Target {
-    image: Vec<u8>,
     /// What is told of its checkpoints, the minor ones too.
     rows: Items<Row>,
     /// The file of its pins.
@@ -30,24 +28,19 @@ struct Target {
 }
 
 impl Target {
-    fn of(rt: &HostRuntime, path: &str, clock: Clock<'_>, image: Vec<u8>) -> Result<Target, Fault> {
-        match open_image(rt.alloc(), path, image.as_slice()) {
-            Ok(pen) => Target::of_volume(rt, path, clock, image, &mut PenVolume { pen }),
-            Err(fault) => Err(fault),
-        }
+    fn of(rt: &HostRuntime, path: &str, clock: &Clock<'_>, image: &[u8]) -> Result<Target, Fault> {
+        let view = View::of(rt, path, image, clock)?;
+        let pins = view.pins_file(rt.alloc())?;
+        let rows = view.rows;
+        Ok(Target { rows, pins })
     }
 
-    fn of_volume(
-        rt: &HostRuntime,
-        path: &str,
-        clock: Clock<'_>,
-        image: Vec<u8>,
-        volume: &mut PenVolume<MemDevice>,
-    ) -> Result<Target, Fault> {
-        let view = View::of(rt, path, volume, clock)?;
-        let pins = pins_file(rt.alloc(), path, view.volume)?;
-        let rows = view.rows;
-        Ok(Target { image, rows, pins })
+    /// The file of its pins, once more.
+    fn pins_again(&self, alloc: Global) -> Result<Option<Items<u8>>, AllocError> {
+        match &self.pins {
+            Some(bytes) => Ok(Some(Items::from_slice(alloc, bytes.as_slice())?)),
+            None => Ok(None),
+        }
     }
 }
 
@@ -72,7 +65,7 @@ fn image_for(rt: &HostRuntime, path: &str, view: &View<'_>) -> Result<(Vec<u8>, 
         Err(error) if error.kind() == ErrorKind::NotFound => {}
         Err(error) => return Err(system_fault(alloc, path, "cannot be read", &error)),
     }
-    let table = view.volume.pen.segments();
+    let table = view.pen().segments();
     let segments = u32::try_from(table.sustat().segments).unwrap_or(0);
     let moment = first_moment(view.rows.as_slice());
     match new_image(alloc, segments, table.blocks(), moment) {
@@ -96,36 +89,12 @@ fn is_there(rows_so_far: &[Row], stamp: u64, others: &[Row]) -> bool {
 }
 
 /// Tells of a checkpoint that can't come over any more.
-fn tell_left_out(rt: &HostRuntime, clock: Clock<'_>, path: &str, row: &Row) -> Result<(), Fault> {
-    let (number, date) = (row.number.get(), shown(rt.alloc(), clock.zone, row.stamp)?);
+fn tell_left_out(rt: &HostRuntime, clock: &Clock<'_>, path: &str, row: &Row) -> Result<(), Fault> {
+    let (number, date) = (row.number.get(), shown(rt.alloc(), &clock.zone, row.stamp)?);
     let _ = eprintln!(rt;
         "nlkeep: left out: checkpoint {number} of {date}: {path} has a later one"
     );
     Ok(())
-}
-
-/// Tells the checkpoints that aren't in the other volume and aren't later than its latest one. Answers whether
-/// there are none.
-fn tell_all_left_out(
-    rt: &HostRuntime,
-    clock: Clock<'_>,
-    path: &str,
-    rows: &[Row],
-    others: &[Row],
-) -> Result<bool, Fault> {
-    let latest = latest_stamp(others);
-    let mut is_whole = true;
-    for (place, row) in rows.iter().enumerate() {
-        if is_minor(row) || row.stamp > latest {
-            continue;
-        }
-        let (so_far, _) = rows.split_at(place.saturating_add(1).min(rows.len()));
-        if !is_there(so_far, row.stamp, others) {
-            tell_left_out(rt, clock, path, row)?;
-            is_whole = false;
-        }
-    }
-    Ok(is_whole)
 }
 
 // ---- the image with them
@@ -139,16 +108,17 @@ struct Copied {
     count: u64,
 }
 
-/// The numbers of plain checkpoints, with one more if it is of a plain one.
-fn with_plain(
-    mut plain: Vec<CheckpointNumber>,
-    row: &Row,
-    number: CheckpointNumber,
-) -> Result<Vec<CheckpointNumber>, Fault> {
-    if matches!(row.mode, Mode::Plain) {
-        plain.push(number)?;
+impl Copied {
+    /// Notes that a checkpoint came into it.
+    fn note(&mut self, row: &Row, stores: Stores) -> Result<(), AllocError> {
+        let Stores { stored, image, .. } = stores;
+        self.image = image;
+        self.count = self.count.saturating_add(1);
+        if matches!(row.mode, Mode::Plain) {
+            self.plain.push(stored.number)?;
+        }
+        Ok(())
     }
-    Ok(plain)
 }
 
 /// What all copies have at hand.
@@ -157,93 +127,92 @@ struct Copying<'a> {
     view: &'a View<'a>,
     /// Where the other image stands.
     path: &'a str,
-    clock: Clock<'a>,
+    clock: &'a Clock<'a>,
     most: u64,
 }
 
 impl Copying<'_> {
-    /// The same image with one more checkpoint, as a snapshot of the same tree and date, beside its own pins.
-    fn with_one(
-        &self,
-        rt: &HostRuntime,
-        row: &Row,
-        pins: Option<&Items<u8>>,
-        copied: Copied,
-    ) -> Result<Copied, Fault> {
-        let alloc = rt.alloc();
-        let Copied {
-            image: old,
-            plain,
-            count,
-        } = copied;
-        let pins = match pins {
-            Some(bytes) => Some(Items::from_slice(alloc, bytes.as_slice())?),
-            None => None,
-        };
-        let wanted = Wanted {
-            tree: with_pins(alloc, pins, self.view.tree_of(alloc, row.number)?)?,
+    /// Tells the checkpoints that aren't in the other volume and aren't later than its latest one. Answers
+    /// whether there are none.
+    fn tell_all_left_out(&self, rt: &HostRuntime, others: &[Row]) -> Result<bool, Fault> {
+        let rows = self.view.rows.as_slice();
+        let latest = latest_stamp(others);
+        let mut is_whole = true;
+        for (place, row) in rows.iter().enumerate() {
+            if is_minor(row) || row.stamp > latest {
+                continue;
+            }
+            let (so_far, _) = rows.split_at(place.saturating_add(1).min(rows.len()));
+            if !is_there(so_far, row.stamp, others) {
+                tell_left_out(rt, self.clock, self.path, row)?;
+                is_whole = false;
+            }
+        }
+        Ok(is_whole)
+    }
+
+    /// The tree of a checkpoint beside the other volume's own pins, and its date.
+    fn wanted(&self, alloc: Global, row: &Row, target: &Target) -> Result<Wanted, Fault> {
+        let tree = self.view.tree_of(alloc, row.number)?;
+        Ok(Wanted {
+            tree: with_pins(alloc, target.pins_again(alloc)?, tree)?,
             moment: row.stamp,
             most: self.most,
-        };
-        let Stores { stored, image, .. } = store_in(alloc, self.path, old.as_slice(), &wanted)?;
-        Ok(Copied {
-            image,
-            plain: with_plain(plain, row, stored.number)?,
-            count: count.saturating_add(1),
         })
     }
 
-    /// The image with all that come over, the oldest first.
-    fn with_all<W: Write>(
+    /// Lets one more checkpoint come in, as a snapshot of the same tree and date.
+    fn add(
         &self,
-        rt: &HostRuntime,
-        target: Target,
-        printer: &mut Printer<W>,
+        alloc: Global,
+        row: &Row,
+        target: &Target,
+        copied: &mut Copied,
+    ) -> Result<(), Fault> {
+        let wanted = self.wanted(alloc, row, target)?;
+        let stores = store_in(alloc, self.path, copied.image.as_slice(), &wanted)?;
+        copied.note(row, stores)?;
+        Ok(())
+    }
+
+    /// The image with all that come over, the oldest first, and what is told of them.
+    fn with_all(
+        &self,
+        alloc: Global,
+        image: Vec<u8>,
+        target: &Target,
+        told: &mut Vec<u8>,
     ) -> Result<Copied, Fault> {
-        let Target { image, rows, pins } = target;
-        let latest = latest_stamp(rows.as_slice());
+        let latest = latest_stamp(target.rows.as_slice());
         let mut copied = Copied {
             image,
-            plain: Vec::new(rt.alloc()),
+            plain: Vec::new(alloc),
             count: 0,
         };
         for row in self.view.rows.as_slice() {
             if !is_minor(row) && row.stamp > latest {
-                copied = self.with_one(rt, row, pins.as_ref(), copied)?;
-                self.tell_copied(rt.alloc(), row, printer)?;
+                self.add(alloc, row, target, &mut copied)?;
+                self.tell_copied(alloc, row, told)?;
             }
         }
         Ok(copied)
     }
 
-    fn tell_copied<W: Write>(
-        &self,
-        alloc: Global,
-        row: &Row,
-        printer: &mut Printer<W>,
-    ) -> Result<(), Fault> {
-        let (number, date) = (row.number.get(), shown(alloc, self.clock.zone, row.stamp)?);
-        writeln!(printer.out, "{number:>8}  {date}")?;
+    fn tell_copied(&self, alloc: Global, row: &Row, told: &mut Vec<u8>) -> Result<(), Fault> {
+        let (number, date) = (row.number.get(), shown(alloc, &self.clock.zone, row.stamp)?);
+        writeln!(told, "{number:>8}  {date}")?;
         Ok(())
     }
 }
 
 // ---- plain ones
 
-/// Makes checkpoints plain.
-fn make_plain(
-    volume: &mut PenVolume<MemDevice>,
-    numbers: &[CheckpointNumber],
-) -> Result<(), VolError> {
-    for number in numbers {
-        volume.pen.apply(&Event::ChangeMode(*number, Mode::Plain))?;
-    }
-    Ok(())
+fn make_plain(pen: &mut Pen<MemDevice>, number: CheckpointNumber) -> Result<(), VolError> {
+    without_answer(pen.apply(&Event::ChangeMode(number, Mode::Plain)))
 }
 
 /// The image of a pen, which is as it was opened but for modes.
-fn closed(pen: Pen<MemDevice>) -> Result<Vec<u8>, VolError> {
-    let mut pen = pen;
+fn closed(pen: &mut Pen<MemDevice>) -> Result<Vec<u8>, VolError> {
     if pen.is_dirty() {
         // No change of a mode makes it so.
         return Err(VolError::Fault);
@@ -252,14 +221,39 @@ fn closed(pen: Pen<MemDevice>) -> Result<Vec<u8>, VolError> {
     pen.close()
 }
 
-/// The image of a volume in which checkpoints are made plain.
-fn plain_image(
-    volume: PenVolume<MemDevice>,
+/// The image of a pen, in which checkpoints are made plain.
+fn plain_bytes(
+    pen: &mut Pen<MemDevice>,
     numbers: &[CheckpointNumber],
 ) -> Result<Vec<u8>, VolError> {
-    let mut volume = volume;
-    make_plain(&mut volume, numbers)?;
-    closed(volume.pen)
+    for number in numbers {
+        make_plain(pen, *number)?;
+    }
+    closed(pen)
+}
+
+/// The same of the pen of the image at a path.
+fn plain_image(
+    alloc: Global,
+    path: &str,
+    pen: &mut Pen<MemDevice>,
+    numbers: &[CheckpointNumber],
+) -> Result<Vec<u8>, Fault> {
+    match plain_bytes(pen, numbers) {
+        Ok(next) => Ok(next),
+        Err(error) => Err(volume_fault(alloc, path, error)),
+    }
+}
+
+/// An image in which checkpoints are made plain.
+fn with_plain(
+    alloc: Global,
+    path: &str,
+    image: &[u8],
+    numbers: &[CheckpointNumber],
+) -> Result<Vec<u8>, Fault> {
+    let mut volume = open_image(alloc, path, image)?;
+    plain_image(alloc, path, &mut volume.pen, numbers)
 }
 
 /// The image of what was copied, in which those are plain that are to be.
@@ -267,69 +261,84 @@ fn finished(alloc: Global, path: &str, copied: Copied) -> Result<Vec<u8>, Fault>
     if copied.plain.is_empty() {
         return Ok(copied.image);
     }
-    let pen = open_image(alloc, path, copied.image.as_slice())?;
-    match plain_image(PenVolume { pen }, copied.plain.as_slice()) {
-        Ok(next) => Ok(next),
-        Err(error) => Err(volume_fault(alloc, path, error)),
-    }
+    with_plain(
+        alloc,
+        path,
+        copied.image.as_slice(),
+        copied.plain.as_slice(),
+    )
 }
 
 // ---- the command
 
-/// Brings checkpoints of a volume into an image that is locked. Answers whether one of them is left out, or the
-/// image's sum.
-fn copy_from<W: Write>(
+impl Copying<'_> {
+    /// Saves what was copied, where the image is other than before. Answers whether its sum is left out.
+    fn save(
+        &self,
+        rt: &HostRuntime,
+        copied: Copied,
+        is_new: bool,
+        place: &mut SavePlace<'_>,
+    ) -> Result<Outcome, Fault> {
+        if copied.count == 0 && !is_new {
+            return Ok(Outcome::Done);
+        }
+        let next = finished(rt.alloc(), self.path, copied)?;
+        save_image(rt, self.path, place, next.as_slice())
+    }
+
+    /// Brings checkpoints into an image, and tells of them once it is saved. Answers whether one of them is left
+    /// out, or the image's sum.
+    fn copy_into<W: Write>(
+        &self,
+        rt: &HostRuntime,
+        image: (Vec<u8>, bool),
+        target: &Target,
+        place: &mut SavePlace<'_>,
+        printer: &mut Printer<W>,
+    ) -> Result<Outcome, Fault> {
+        let is_whole = self.tell_all_left_out(rt, target.rows.as_slice())?;
+        let (image, is_new) = image;
+        let mut told = Vec::new(rt.alloc());
+        let copied = self.with_all(rt.alloc(), image, target, &mut told)?;
+        let count = copied.count;
+        let ending = if count == 1 { "" } else { "s" };
+        writeln!(told, "{count} checkpoint{ending} copied")?;
+        let saved = self.save(rt, copied, is_new, place)?;
+        printer.out.write_all(told.as_slice())?;
+        Ok(saved.and(Outcome::of(is_whole)))
+    }
+
+    /// The same of the image that is locked.
+    fn copy<W: Write>(
+        &self,
+        rt: &HostRuntime,
+        place: &mut SavePlace<'_>,
+        printer: &mut Printer<W>,
+    ) -> Result<Outcome, Fault> {
+        let image = image_for(rt, self.path, self.view)?;
+        let target = Target::of(rt, self.path, self.clock, image.0.as_slice())?;
+        self.copy_into(rt, image, &target, place, printer)
+    }
+}
+
+fn copy_in<W: Write>(
     rt: &HostRuntime,
-    copying: Copying<'_>,
+    matches: &ArgMatches<'_>,
+    clock: &Clock<'_>,
+    view: &View<'_>,
     place: &mut SavePlace<'_>,
     printer: &mut Printer<W>,
 ) -> Result<Outcome, Fault> {
-    let Copying {
-        view,
-        path,
-        clock,
-        ..
-    } = copying;
-    let alloc = rt.alloc();
-    let (image, is_new) = image_for(rt, path, view)?;
-    let target = Target::of(rt, path, clock, image)?;
-    let (rows, others) = (view.rows.as_slice(), target.rows.as_slice());
-    let is_whole = tell_all_left_out(rt, clock, path, rows, others)?;
-    let mut told = Printer {
-        out: Vec::new(alloc),
-        is_terminal: printer.is_terminal,
-    };
-    let copied = copying.with_all(rt, target, &mut told)?;
-    let count = copied.count;
-    let mut saved = Outcome::Done;
-    if count > 0 || is_new {
-        let next = finished(alloc, path, copied)?;
-        saved = save_image(rt, path, place, next.as_slice())?;
-    }
-    printer.out.write_all(told.out.as_slice())?;
-    let ending = if count == 1 { "" } else { "s" };
-    writeln!(printer.out, "{count} checkpoint{ending} copied")?;
-    Ok(saved.and(Outcome::of(is_whole)))
-}
-
-fn copy_volume<W: Write>(
-    rt: &HostRuntime,
-    matches: &ArgMatches<'_>,
-    clock: Clock<'_>,
-    volume: &mut PenVolume<MemDevice>,
-    printer: &mut Printer<W>,
-) -> Result<Outcome, Fault> {
-    let path = word(matches, "IMAGE2");
-    let mut place = take_place(rt, path)?;
     let most = most(rt, matches)?;
-    let view = View::of(rt, word(matches, "IMAGE"), volume, clock)?;
+    view.tell_late(rt, clock)?;
     let copying = Copying {
-        view: &view,
-        path,
+        view,
+        path: word(matches, "IMAGE2"),
         clock,
         most,
     };
-    copy_from(rt, copying, &mut place, printer)
+    copying.copy(rt, place, printer)
 }
 
 /// Brings each checkpoint of an image into another one that is later than all of that, the oldest first, with its
@@ -338,11 +347,10 @@ fn copy_volume<W: Write>(
 pub fn copy<W: Write>(
     rt: &HostRuntime,
     matches: &ArgMatches<'_>,
-    clock: Clock<'_>,
+    clock: &Clock<'_>,
     printer: &mut Printer<W>,
 ) -> Result<Outcome, Fault> {
-    match open_at(rt, word(matches, "IMAGE")) {
-        Ok(pen) => copy_volume(rt, matches, clock, &mut PenVolume { pen }, printer),
-        Err(fault) => Err(fault),
-    }
+    let view = View::at(rt, word(matches, "IMAGE"))?;
+    let mut place = take_place(rt, word(matches, "IMAGE2"))?;
+    copy_in(rt, matches, clock, &view, &mut place, printer)
 }

@@ -3,7 +3,8 @@ use crate::asking::Outcome;
 use crate::faults::{Fault, volume_fault};
 use crate::json::object;
 use crate::printing::Printer;
-use crate::sizes::size_shown;
+use crate::sizes::Size;
+use crate::views::View;
 use clap::ArgMatches;
 use nl_core::Pen;
 use nl_device::MemDevice;
@@ -11,7 +12,7 @@ use nl_keep_pen::Capacity;
 use nl_types::{BLOCK_SIZE, Segment, SegmentState, VolError};
 use serde::Serialize;
 use std::alloc::Global;
-use std::io::Write;
+use std::io::{self, Write};
 
 /// The blocks of a segment, or of all of them. A block is in one of these counts, which sum to all blocks.
 #[derive(Clone, Copy, Drop, Serialize)]
@@ -48,7 +49,7 @@ impl Blocks {
         }
     }
 
-    fn plus(self, other: Blocks) -> Blocks {
+    fn plus(&self, other: &Blocks) -> Blocks {
         Blocks {
             clean: self.clean.saturating_add(other.clean),
             needed: self.needed.saturating_add(other.needed),
@@ -154,7 +155,7 @@ impl VolumeUse {
             blocks: NO_BLOCKS,
         };
         for one in uses {
-            whole.blocks = whole.blocks.plus(one.blocks);
+            whole.blocks = whole.blocks.plus(&one.blocks);
             match one.state {
                 SegmentState::Clean => whole.clean_segments = whole
                     .clean_segments
@@ -184,7 +185,7 @@ struct UseObject {
     room_grown: u64,
 }
 
-fn object_of(whole: VolumeUse, blocks: u64, capacity: Capacity) -> UseObject {
+fn object_of(whole: &VolumeUse, blocks: u64, capacity: Capacity) -> UseObject {
     UseObject {
         segments: whole.segments,
         clean_segments: whole.clean_segments,
@@ -198,30 +199,29 @@ fn object_of(whole: VolumeUse, blocks: u64, capacity: Capacity) -> UseObject {
 }
 
 /// Tells how a volume is in use, a line for each kind of blocks.
-fn tell<W: Write>(whole: VolumeUse, blocks: u64, printer: &mut Printer<W>) -> Result<(), Fault> {
+fn tell<W: Write>(whole: &VolumeUse, blocks: u64, printer: &mut Printer<W>) -> io::Result<()> {
     let VolumeUse {
         segments,
         clean_segments,
         failed_segments,
         blocks: kinds,
-    } = whole;
+    } = *whole;
+    let Blocks {
+        clean,
+        needed,
+        dead,
+        summaries,
+        unused,
+    } = kinds;
     let out = &mut printer.out;
     writeln!(
         out,
-        "{blocks:>8}  blocks of {BLOCK_SIZE} bytes, in {segments} segments"
-    )?;
-    writeln!(
-        out,
-        "{:>8}  clean, in {clean_segments} segments",
-        kinds.clean
-    )?;
-    writeln!(out, "{:>8}  needed", kinds.needed)?;
-    writeln!(out, "{:>8}  dead", kinds.dead)?;
-    writeln!(out, "{:>8}  summaries of logs", kinds.summaries)?;
-    writeln!(
-        out,
-        "{:>8}  unused, behind the logs of a segment",
-        kinds.unused
+        "{blocks:>8}  blocks of {BLOCK_SIZE} bytes, in {segments} segments\n\
+         {clean:>8}  clean, in {clean_segments} segments\n\
+         {needed:>8}  needed\n\
+         {dead:>8}  dead\n\
+         {summaries:>8}  summaries of logs\n\
+         {unused:>8}  unused, behind the logs of a segment"
     )?;
     if failed_segments > 0 {
         writeln!(out, "{failed_segments:>8}  segments in error")?;
@@ -231,11 +231,10 @@ fn tell<W: Write>(whole: VolumeUse, blocks: u64, printer: &mut Printer<W>) -> Re
 
 /// Tells how many blocks the next backup can write, and how many bytes those have.
 fn tell_capacity<W: Write>(
-    alloc: Global,
     capacity: Capacity,
     segment_blocks: u32,
     printer: &mut Printer<W>,
-) -> Result<(), Fault> {
+) -> io::Result<()> {
     let Capacity {
         present,
         grown,
@@ -249,27 +248,22 @@ fn tell_capacity<W: Write>(
     let whole = block
         .saturating_mul(u64::from(segments))
         .saturating_mul(u64::from(segment_blocks));
-    let size = size_shown(alloc, whole)?;
-    let out = &mut printer.out;
+    let size = Size(whole);
     writeln!(
-        out,
-        "{present:>8}  can be written by the next backup: {bytes} bytes"
-    )?;
-    writeln!(
-        out,
-        "{grown:>8}  can be written if the volume grows to {size}: {grown_bytes} bytes"
-    )?;
-    Ok(())
+        printer.out,
+        "{present:>8}  can be written by the next backup: {bytes} bytes\n\
+         {grown:>8}  can be written if the volume grows to {size}: {grown_bytes} bytes"
+    )
 }
 
 /// Tells how the volume of an image is in use.
 pub fn df<W: Write>(
     alloc: Global,
     matches: &ArgMatches<'_>,
-    path: &str,
-    pen: &Pen<MemDevice>,
+    view: &View<'_>,
     printer: &mut Printer<W>,
 ) -> Result<Outcome, Fault> {
+    let (path, pen) = (view.path, view.pen());
     let uses = segment_uses(alloc, path, pen)?;
     let whole = VolumeUse::of(uses.as_slice());
     let blocks = whole
@@ -280,10 +274,10 @@ pub fn df<W: Write>(
         Err(error) => return Err(volume_fault(alloc, path, error)),
     };
     if matches.get_flag("json") {
-        object(alloc, &object_of(whole, blocks, capacity), printer)?;
+        object(alloc, &object_of(&whole, blocks, capacity), printer)?;
     } else {
-        tell(whole, blocks, printer)?;
-        tell_capacity(alloc, capacity, pen.segments().blocks(), printer)?;
+        tell(&whole, blocks, printer)?;
+        tell_capacity(capacity, pen.segments().blocks(), printer)?;
     }
     Ok(Outcome::Done)
 }

@@ -37,12 +37,17 @@ impl From<io::Error> for Fault {
     }
 }
 
-/// What is wrong with what stands at a path, or with a word.
-pub fn fault_at(alloc: Global, path: &str, what: &str) -> Fault {
-    match format!(in alloc; "{path}: {what}") {
+/// What is wrong, by a text for which memory may have lacked.
+pub fn told(text: Result<String, AllocError>) -> Fault {
+    match text {
         Ok(text) => Fault::Told(text),
         Err(_) => Fault::Memory,
     }
+}
+
+/// What is wrong with what stands at a path, or with a word.
+pub fn fault_at(alloc: Global, path: &str, what: &str) -> Fault {
+    told(format!(in alloc; "{path}: {what}"))
 }
 
 /// The same, with what the system says.
@@ -50,10 +55,7 @@ pub fn system_fault(alloc: Global, path: &str, what: &str, error: &io::Error) ->
     if error.kind() == io::ErrorKind::OutOfMemory {
         return Fault::Memory;
     }
-    match format!(in alloc; "{path}: {what}: {error}") {
-        Ok(text) => Fault::Told(text),
-        Err(_) => Fault::Memory,
-    }
+    told(format!(in alloc; "{path}: {what}: {error}"))
 }
 
 /// What the volume of an image refuses.
@@ -66,10 +68,7 @@ pub fn volume_fault(alloc: Global, image: &str, error: VolError) -> Fault {
             "is no image of a volume, or a damaged one",
         ),
         VolError::NoSpace => fault_at(alloc, image, "is full"),
-        _ => match format!(in alloc; "{image}: {error}") {
-            Ok(text) => Fault::Told(text),
-            Err(_) => Fault::Memory,
-        },
+        _ => told(format!(in alloc; "{image}: {error}")),
     }
 }
 

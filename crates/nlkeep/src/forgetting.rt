@@ -1,15 +1,15 @@
 //! `forget`: checkpoints are removed, snapshots too.
 use crate::asking::{Clock, Outcome, moment, most, word};
-use crate::checkpoints::rows;
 use crate::faults::{Fault, fault_at, volume_fault};
-use crate::images::{device_for, open_image, read_image, save_image, take_place};
+use crate::images::{device_for, read_image, save_image, take_place};
 use crate::printing::Printer;
-use crate::views::{latest_stamp, tell_late};
+use crate::views::View;
 use clap::ArgMatches;
 use nl_keep_pen::{Round, RoundIfShort, forget_image};
-use nl_types::{CheckpointNumber, Items, Row, decimal};
+use nl_saving::SavePlace;
+use nl_types::{CheckpointNumber, Row, decimal};
 use std::alloc::Global;
-use std::io::Write;
+use std::io::{self, Write};
 
 /// The first and the last number of a range.
 #[derive(Clone, Copy)]
@@ -87,26 +87,9 @@ fn going(
     Ok(going)
 }
 
-/// What is told of the checkpoints of an image.
-fn image_rows(alloc: Global, path: &str, image: &[u8]) -> Result<Items<Row>, Fault> {
-    match open_image(alloc, path, image) {
-        Ok(mut pen) => rows(alloc, path, &mut pen),
-        Err(fault) => Err(fault),
-    }
-}
-
-/// The checkpoints of an image that words mean.
-fn numbers_said(
-    rt: &HostRuntime,
-    path: &str,
-    image: &[u8],
-    words: &[&str],
-    clock: Clock<'_>,
-) -> Result<Vec<CheckpointNumber>, Fault> {
-    let alloc = rt.alloc();
-    let rows = image_rows(alloc, path, image)?;
-    tell_late(rt, path, clock, latest_stamp(rows.as_slice()))?;
-    match rows.as_slice() {
+/// The checkpoints that words mean.
+fn numbers_in(alloc: Global, words: &[&str], rows: &[Row]) -> Result<Vec<CheckpointNumber>, Fault> {
+    match rows {
         [earlier @ .., latest] => {
             let ranges = ranges_said(alloc, words, earlier, latest.number)?;
             going(alloc, ranges.as_slice(), earlier)
@@ -115,38 +98,86 @@ fn numbers_said(
     }
 }
 
+/// The same of an image. A late date is told.
+fn numbers_said(
+    rt: &HostRuntime,
+    path: &str,
+    image: &[u8],
+    words: &[&str],
+    clock: &Clock<'_>,
+) -> Result<Vec<CheckpointNumber>, Fault> {
+    let view = View::of(rt, path, image, clock)?;
+    numbers_in(rt.alloc(), words, view.rows.as_slice())
+}
+
+/// The image without checkpoints.
+fn without(
+    alloc: Global,
+    path: &str,
+    image: &[u8],
+    numbers: &[CheckpointNumber],
+    moment: u64,
+) -> Result<Vec<u8>, Fault> {
+    let device = device_for(alloc, path, image)?;
+    let round = Round { alloc, moment };
+    match forget_image(alloc, image, device, numbers, &mut RoundIfShort { round }) {
+        Ok(next) => Ok(next),
+        Err(error) => Err(volume_fault(alloc, path, error)),
+    }
+}
+
+fn tell_removed<W: Write>(count: usize, printer: &mut Printer<W>) -> io::Result<()> {
+    let ending = if count == 1 { "" } else { "s" };
+    writeln!(printer.out, "{count} checkpoint{ending} removed")
+}
+
+/// Removes checkpoints of an image, and saves it.
+fn forget_numbers<W: Write>(
+    rt: &HostRuntime,
+    path: &str,
+    image: &[u8],
+    numbers: &[CheckpointNumber],
+    moment: u64,
+    place: &mut SavePlace<'_>,
+    printer: &mut Printer<W>,
+) -> Result<Outcome, Fault> {
+    let next = without(rt.alloc(), path, image, numbers, moment)?;
+    let saved = save_image(rt, path, place, next.as_slice())?;
+    tell_removed(numbers.len(), printer)?;
+    Ok(saved)
+}
+
+fn forget_in<W: Write>(
+    rt: &HostRuntime,
+    matches: &ArgMatches<'_>,
+    clock: &Clock<'_>,
+    place: &mut SavePlace<'_>,
+    printer: &mut Printer<W>,
+) -> Result<Outcome, Fault> {
+    let path = word(matches, "IMAGE");
+    let words = matches.get_strs("R").unwrap_or(&[]);
+    let image = read_image(rt, path)?;
+    let numbers = numbers_said(rt, path, image.as_slice(), words, clock)?;
+    let moment = moment(rt, matches, clock.now)?;
+    most(rt, matches)?;
+    forget_numbers(
+        rt,
+        path,
+        image.as_slice(),
+        numbers.as_slice(),
+        moment,
+        place,
+        printer,
+    )
+}
+
 /// Removes checkpoints, and saves the image.
 pub fn forget<W: Write>(
     rt: &HostRuntime,
     matches: &ArgMatches<'_>,
-    clock: Clock<'_>,
+    clock: &Clock<'_>,
     printer: &mut Printer<W>,
 ) -> Result<Outcome, Fault> {
-    let alloc = rt.alloc();
-    let path = word(matches, "IMAGE");
-    let mut place = take_place(rt, path)?;
-    let image = read_image(rt, path)?;
-    let words = matches.get_strs("R").unwrap_or(&[]);
-    let numbers = numbers_said(rt, path, image.as_slice(), words, clock)?;
-    let moment = moment(rt, matches, clock.now)?;
-    most(rt, matches)?;
-    let device = device_for(alloc, path, image.as_slice())?;
-    match forget_image(
-        alloc,
-        image.as_slice(),
-        device,
-        numbers.as_slice(),
-        &mut RoundIfShort {
-            round: Round { alloc, moment },
-        },
-    ) {
-        Ok(next) => {
-            let saved = save_image(rt, path, &mut place, next.as_slice())?;
-            let count = numbers.len();
-            let ending = if count == 1 { "" } else { "s" };
-            writeln!(printer.out, "{count} checkpoint{ending} removed")?;
-            Ok(saved)
-        }
-        Err(error) => Err(volume_fault(alloc, path, error)),
-    }
+    let mut place = take_place(rt, word(matches, "IMAGE"))?;
+    forget_in(rt, matches, clock, &mut place, printer)
 }

@@ -1,14 +1,16 @@
 //! `history` and `find`: where in the history of a volume something stood.
-use crate::asking::{Clock, Outcome};
+use crate::asking::{Clock, Outcome, word};
 use crate::checkpoints::is_minor;
 use crate::faults::{Fault, fault_at, tree_fault};
 use crate::json::{StandingObject, object};
 use crate::moments::shown;
 use crate::parts::path_said;
-use crate::printing::Printer;
+use crate::printing::{Printer, Seen};
 use crate::views::View;
-use nl_folders::Name;
+use clap::ArgMatches;
+use nl_folders::{Name, Path};
 use nl_keep_pen::changed_at;
+use nl_manifests::HostEntry;
 use nl_types::{CheckpointNumber, Items, Row};
 use std::alloc::{AllocError, Global};
 use std::io::Write;
@@ -31,9 +33,38 @@ fn changes(
     path: &[Name],
 ) -> Result<Items<CheckpointNumber>, Fault> {
     let numbers = numbers_of(alloc, view.rows.as_slice())?;
-    match changed_at(alloc, view.volume, numbers.as_slice(), path) {
+    match changed_at(alloc, view.volume(), numbers.as_slice(), path) {
         Ok(changes) => Ok(changes),
         Err(error) => Err(tree_fault(alloc, view.path, error)),
+    }
+}
+
+fn tell_object<W: Write>(
+    alloc: Global,
+    row: &Row,
+    date: &str,
+    seen: Option<Seen<'_>>,
+    printer: &mut Printer<W>,
+) -> Result<(), Fault> {
+    let told = StandingObject::of(alloc, row, date, seen)?;
+    object(alloc, &told, printer)
+}
+
+/// Tells what was seen of a checkpoint.
+fn tell_seen<W: Write>(
+    alloc: Global,
+    row: &Row,
+    seen: Option<Seen<'_>>,
+    clock: &Clock<'_>,
+    is_json: bool,
+    printer: &mut Printer<W>,
+) -> Result<(), Fault> {
+    let date = shown(alloc, &clock.zone, row.stamp)?;
+    if is_json {
+        tell_object(alloc, row, date.as_str(), seen, printer)
+    } else {
+        printer.standing(row.number.get(), date.as_str(), seen)?;
+        Ok(())
     }
 }
 
@@ -43,32 +74,26 @@ fn tell_standing<W: Write>(
     view: &View<'_>,
     row: &Row,
     path: &[Name],
-    clock: Clock<'_>,
+    clock: &Clock<'_>,
     is_json: bool,
     printer: &mut Printer<W>,
 ) -> Result<(), Fault> {
-    let tree = view.shown(alloc, row.number)?.tree;
+    let tree = view.shown_tree(alloc, row.number)?;
     let seen = view.seen(alloc, row.number, tree.as_slice(), path)?;
-    let (number, date) = (row.number.get(), shown(alloc, clock.zone, row.stamp)?);
-    if is_json {
-        let told = StandingObject::of(alloc, row, date.as_str(), seen)?;
-        return object(alloc, &told, printer);
-    }
-    write!(printer.out, "{number:>8}  {date}  ")?;
-    printer.standing(seen)?;
-    Ok(())
+    tell_seen(alloc, row, seen, clock, is_json, printer)
 }
 
 /// Tells each kept checkpoint whose tree differs at or below a path from that of the one before, the oldest
 /// first, with its date and what stands there, in a line or an object. Minor ones, which no person made, are passed over.
 pub fn history<W: Write>(
     alloc: Global,
+    matches: &ArgMatches<'_>,
+    clock: &Clock<'_>,
     view: &View<'_>,
-    word: &str,
-    clock: Clock<'_>,
-    is_json: bool,
     printer: &mut Printer<W>,
 ) -> Result<Outcome, Fault> {
+    let word = word(matches, "PATH");
+    let is_json = matches.get_flag("json");
     let path = path_said(alloc, word)?;
     let changes = changes(alloc, view, path.as_slice())?;
     for row in view.rows.as_slice() {
@@ -91,7 +116,29 @@ fn is_named(path: &[Name], name: &str) -> bool {
     }
 }
 
-/// Tells what a checkpoint has under a name, wherever that is, a line each. Answers how many they are.
+/// Tells what the tree of a checkpoint shows under a name, wherever that is, a line each. Answers how many they
+/// are.
+fn find_in<W: Write>(
+    alloc: Global,
+    view: &View<'_>,
+    number: CheckpointNumber,
+    tree: &[(Path, HostEntry)],
+    name: &str,
+    printer: &mut Printer<W>,
+) -> Result<u64, Fault> {
+    let mut count: u64 = 0;
+    for (path, entry) in tree {
+        let path = path.as_slice();
+        if is_named(path, name) {
+            let seen = view.seen_entry(alloc, number, path, entry)?;
+            printer.found(number.get(), path, &seen)?;
+            count = count.saturating_add(1);
+        }
+    }
+    Ok(count)
+}
+
+/// The same of a kept checkpoint.
 fn find_there<W: Write>(
     alloc: Global,
     view: &View<'_>,
@@ -99,17 +146,8 @@ fn find_there<W: Write>(
     name: &str,
     printer: &mut Printer<W>,
 ) -> Result<u64, Fault> {
-    let shown = view.shown(alloc, number)?;
-    let mut count: u64 = 0;
-    for (path, entry) in shown.tree.as_slice() {
-        if is_named(path.as_slice(), name) {
-            let seen = view.seen_entry(alloc, number, path.as_slice(), entry)?;
-            write!(printer.out, "{:>8}  ", number.get())?;
-            printer.entry(path.as_slice(), seen)?;
-            count = count.saturating_add(1);
-        }
-    }
-    Ok(count)
+    let tree = view.shown_tree(alloc, number)?;
+    find_in(alloc, view, number, tree.as_slice(), name, printer)
 }
 
 /// Tells what each kept checkpoint has under a name, the oldest first.

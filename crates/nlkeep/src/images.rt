@@ -6,14 +6,17 @@ ghost use Rattle.nl_image.specs.Reading.{IsRefusal};
 ghost use Rattle.nl_core.specs.Opened.{IsOpenRefusal};
 
 use crate::asking::Outcome;
-use crate::faults::{Fault, fault_at, system_fault, volume_fault};
+use crate::faults::{Fault, fault_at, system_fault, told, volume_fault};
+use crate::printing::Printer;
 use crate::sums::PlannedSum;
 use nl_core::{Pen, geometry_of, open};
 use nl_device::MemDevice;
+use nl_keep_pen::PenVolume;
 use nl_saving::{FileFault, InUse, SavePlace, Saved, read_file};
 use nl_types::VolError;
 use std::alloc::Global;
 use std::fs::File;
+use std::io::Write;
 use std::rt::Files;
 
 /// The bytes of an image.
@@ -56,17 +59,15 @@ pub fn pen_of(alloc: Global, image: &[u8]) -> Result<Pen<MemDevice>, VolError>
 }
 
 /// The volume of an image. `path` is where that stands.
-pub fn open_image(alloc: Global, path: &str, image: &[u8]) -> Result<Pen<MemDevice>, Fault> {
+pub fn open_image(
+    alloc: Global,
+    path: &str,
+    image: &[u8],
+) -> Result<Box<PenVolume<MemDevice>>, Fault> {
     match pen_of(alloc, image) {
-        Ok(pen) => Ok(pen),
+        Ok(pen) => Ok(Box::new(alloc, PenVolume { pen })?),
         Err(error) => Err(volume_fault(alloc, path, error)),
     }
-}
-
-/// The volume of the image at a path.
-pub fn open_at<R: AllocGlobal + Files>(rt: &R, path: &str) -> Result<Pen<MemDevice>, Fault> {
-    let image = read_image(rt, path)?;
-    open_image(rt.alloc(), path, image.as_slice())
 }
 
 /// The place where an image is saved in the end, for this program alone.
@@ -89,6 +90,16 @@ pub fn save_image(
     image: &[u8],
 ) -> Result<Outcome, Fault> {
     let sum = PlannedSum::of(rt.alloc(), path, image)?;
+    save_with(rt, path, place, image, &sum)
+}
+
+fn save_with(
+    rt: &HostRuntime,
+    path: &str,
+    place: &mut SavePlace<'_>,
+    image: &[u8],
+    sum: &PlannedSum,
+) -> Result<Outcome, Fault> {
     match place.save(rt, image) {
         Ok(Saved::There) => Ok(sum.save(rt, path)),
         Ok(Saved::Beside(side)) => Err(changed_fault(rt.alloc(), path, side.as_str())),
@@ -96,9 +107,20 @@ pub fn save_image(
     }
 }
 
+/// The same, and tells then what was put together before.
+pub fn save_told<W: Write>(
+    rt: &HostRuntime,
+    path: &str,
+    place: &mut SavePlace<'_>,
+    image: &[u8],
+    text: &[u8],
+    printer: &mut Printer<W>,
+) -> Result<Outcome, Fault> {
+    let saved = save_image(rt, path, place, image)?;
+    printer.out.write_all(text)?;
+    Ok(saved)
+}
+
 fn changed_fault(alloc: Global, path: &str, side: &str) -> Fault {
-    match format!(in alloc; "{path}: was changed by another program: this volume is in {side}") {
-        Ok(text) => Fault::Told(text),
-        Err(_) => Fault::Memory,
-    }
+    told(format!(in alloc; "{path}: was changed by another program: this volume is in {side}"))
 }

@@ -19,8 +19,7 @@ pub fn object<T: Serialize, W: Write>(
     match serde_json::to_string(alloc, value) {
         Ok(text) => {
             let text = text.replace(alloc, '<', "\\u003c")?;
-            printer.out.write_all(text.as_bytes())?;
-            printer.line()?;
+            writeln!(printer.out, "{text}")?;
             Ok(())
         }
         // Nothing but memory lacks where numbers and texts are written.
@@ -95,13 +94,10 @@ impl<'a> CheckpointObject<'a> {
         })
     }
 
-    /// The same, with how many paths and bytes its tree has.
-    pub fn with_amount(self, paths: u64, bytes: u64) -> CheckpointObject<'a> {
-        CheckpointObject {
-            paths: Some(paths),
-            bytes: Some(bytes),
-            ..self
-        }
+    /// Notes how many paths and bytes its tree has.
+    pub fn set_amount(&mut self, paths: u64, bytes: u64) {
+        self.paths = Some(paths);
+        self.bytes = Some(bytes);
     }
 }
 
@@ -159,7 +155,7 @@ fn target_of(alloc: Global, object: &HostObject) -> Result<Option<String>, Alloc
 }
 
 impl EntryObject {
-    pub fn of(alloc: Global, seen: Seen<'_>) -> Result<EntryObject, AllocError> {
+    pub fn of(alloc: Global, seen: &Seen<'_>) -> Result<EntryObject, AllocError> {
         let attributes = seen.entry.attributes;
         let mode = match attributes {
             Some(known) => Some(mode_text(alloc, known)?),
@@ -183,7 +179,7 @@ impl EntryObject {
 
     fn of_some(alloc: Global, seen: Option<Seen<'_>>) -> Result<Option<EntryObject>, AllocError> {
         match seen {
-            Some(seen) => Ok(Some(EntryObject::of(alloc, seen)?)),
+            Some(seen) => Ok(Some(EntryObject::of(alloc, &seen)?)),
             None => Ok(None),
         }
     }
@@ -198,7 +194,7 @@ pub struct PlacedObject {
 }
 
 impl PlacedObject {
-    pub fn of(alloc: Global, path: &[Name], seen: Seen<'_>) -> Result<PlacedObject, AllocError> {
+    pub fn of(alloc: Global, path: &[Name], seen: &Seen<'_>) -> Result<PlacedObject, AllocError> {
         Ok(PlacedObject {
             path: path_text(alloc, path)?,
             entry: EntryObject::of(alloc, seen)?,

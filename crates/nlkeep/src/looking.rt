@@ -3,27 +3,24 @@ use crate::amounts::{Amount, amount_of};
 use crate::archives::tar;
 use crate::asking::{Clock, Outcome, word};
 use crate::checkpoints::is_minor;
-use crate::comparing::{Pair, tell_checkpoint_differences};
+use crate::comparing::Comparing;
 use crate::df::df;
-use crate::faults::{Fault, fault_at, tree_fault};
+use crate::faults::{Fault, tree_fault};
 use crate::history::{find, history};
-use crate::images::open_at;
 use crate::json::{CheckpointObject, PlacedObject, object};
 use crate::moments::shown;
-use crate::outline::{du, tree};
+use crate::outline::{Shown, du, nothing_there, tree};
 use crate::parts::path_said;
-use crate::printing::{Printer, Seen, tell_no_pins, tell_refused};
+use crate::printing::{Printer, Seen, tell_no_pins};
 use crate::restore::restore;
 use crate::showing::show;
 use crate::views::View;
 use clap::ArgMatches;
-use nl_device::MemDevice;
 use nl_folders::{Name, begins_with};
-use nl_keep_pen::PenVolume;
 use nl_pins::Pins;
 use nl_types::{CheckpointNumber, Mode, Row};
 use std::alloc::Global;
-use std::io::Write;
+use std::io::{self, Write};
 
 fn kind(row: &Row) -> &'static str {
     match row.mode {
@@ -41,12 +38,12 @@ pub fn amount_behind(
     number: CheckpointNumber,
 ) -> Result<Amount, Fault> {
     match before {
-        Some(before) if view.volume.pen.is_same_tree(before.number, number) => {
+        Some(before) if view.pen().is_same_tree(before.number, number) => {
             return Ok(before.amount);
         }
         _ => {}
     }
-    match amount_of(alloc, view.volume, number) {
+    match amount_of(alloc, view.volume(), number) {
         Ok(amount) => Ok(amount),
         Err(error) => Err(tree_fault(alloc, view.path, error)),
     }
@@ -62,18 +59,39 @@ pub struct Counted {
 /// Tells of a checkpoint by an object.
 pub fn tell_object<W: Write>(
     alloc: Global,
-    clock: Clock<'_>,
+    clock: &Clock<'_>,
     row: &Row,
     pin: Option<&[u8]>,
     counted: Option<&Counted>,
     printer: &mut Printer<W>,
 ) -> Result<(), Fault> {
-    let date = shown(alloc, clock.zone, row.stamp)?;
+    let date = shown(alloc, &clock.zone, row.stamp)?;
     let mut told = CheckpointObject::of(alloc, row, date.as_str(), pin)?;
     if let Some(counted) = counted {
-        told = told.with_amount(counted.amount.paths, counted.amount.bytes);
+        told.set_amount(counted.amount.paths, counted.amount.bytes);
     }
     object(alloc, &told, printer)
+}
+
+impl<W: Write> Printer<W> {
+    /// A checkpoint in a line.
+    fn row(
+        &mut self,
+        row: &Row,
+        date: &str,
+        pin: Option<&[u8]>,
+        counted: Option<&Counted>,
+    ) -> io::Result<()> {
+        let (number, inodes, kind) = (row.number.get(), row.inodes, kind(row));
+        write!(self.out, "{number:>8}  {date}  {kind:<8}  {inodes:>8}")?;
+        if let Some(Counted { amount, .. }) = counted {
+            write!(self.out, "  {:>8}  {:>10}", amount.paths, amount.bytes)?;
+        }
+        if let Some(text) = pin {
+            self.pin(text)?;
+        }
+        self.line()
+    }
 }
 
 /// What a command asks that looks at a volume.
@@ -81,17 +99,11 @@ pub fn tell_object<W: Write>(
 struct Asked<'q, 'm> {
     alloc: Global,
     matches: &'q ArgMatches<'m>,
-    clock: Clock<'q>,
+    clock: &'q Clock<'q>,
     view: &'q View<'q>,
 }
 
 impl Asked<'_, '_> {
-    /// The kept checkpoint that an argument means.
-    fn number(&self, id: &str) -> Result<CheckpointNumber, Fault> {
-        self.view
-            .number(self.alloc, word(self.matches, id), self.clock)
-    }
-
     /// How much the tree of a checkpoint has, where that is asked for.
     fn counted(
         &self,
@@ -105,15 +117,6 @@ impl Asked<'_, '_> {
         Ok(Some(Counted { number, amount }))
     }
 
-    /// Tells of a checkpoint, without the end of the line.
-    fn tell_row<W: Write>(&self, row: &Row, printer: &mut Printer<W>) -> Result<(), Fault> {
-        let date = shown(self.alloc, self.clock.zone, row.stamp)?;
-        let (number, inodes) = (row.number.get(), row.inodes);
-        let kind = kind(row);
-        write!(printer.out, "{number:>8}  {date}  {kind:<8}  {inodes:>8}")?;
-        Ok(())
-    }
-
     /// Tells of a checkpoint by a line.
     fn tell_line<W: Write>(
         &self,
@@ -122,14 +125,8 @@ impl Asked<'_, '_> {
         counted: Option<&Counted>,
         printer: &mut Printer<W>,
     ) -> Result<(), Fault> {
-        self.tell_row(row, printer)?;
-        if let Some(Counted { amount, .. }) = counted {
-            write!(printer.out, "  {:>8}  {:>10}", amount.paths, amount.bytes)?;
-        }
-        if let Some(text) = pin {
-            printer.pin(text)?;
-        }
-        printer.line()?;
+        let date = shown(self.alloc, &self.clock.zone, row.stamp)?;
+        printer.row(row, date.as_str(), pin, counted)?;
         Ok(())
     }
 
@@ -171,7 +168,7 @@ impl Asked<'_, '_> {
     fn tell_entry<W: Write>(
         &self,
         path: &[Name],
-        seen: Seen<'_>,
+        seen: &Seen<'_>,
         printer: &mut Printer<W>,
     ) -> Result<(), Fault> {
         if self.matches.get_flag("json") {
@@ -182,118 +179,116 @@ impl Asked<'_, '_> {
         Ok(())
     }
 
-    /// Lists what lies at and below a path of a checkpoint, with the bytes of files.
-    fn ls<W: Write>(&self, rt: &HostRuntime, printer: &mut Printer<W>) -> Result<Outcome, Fault> {
-        let number = self.number("CNO")?;
-        let shown = self.view.shown(self.alloc, number)?;
-        let word = self.matches.get_str("PATH").unwrap_or("");
-        let top = path_said(self.alloc, word)?;
+    /// Tells what stands at and below a path. Answers whether something does.
+    fn tell_entries<W: Write>(
+        &self,
+        shown: &Shown,
+        printer: &mut Printer<W>,
+    ) -> Result<bool, Fault> {
+        let top = shown.top.as_slice();
         let mut is_there = false;
-        for (path, entry) in shown.tree.as_slice() {
+        for (path, entry) in shown.opened.tree.as_slice() {
             let path = path.as_slice();
-            if begins_with(path, top.as_slice()) {
-                let seen = self.view.seen_entry(self.alloc, number, path, entry)?;
-                self.tell_entry(&path[top.len()..], seen, printer)?;
+            if begins_with(path, top) {
+                let seen = self.view.seen_entry(self.alloc, shown.number, path, entry)?;
+                self.tell_entry(&path[top.len()..], &seen, printer)?;
                 is_there = true;
             }
         }
-        if !is_there {
-            return Err(fault_at(self.alloc, word, "nothing is there"));
-        }
-        let is_whole = tell_refused(rt, shown.refused.as_slice(), top.as_slice());
-        Ok(Outcome::of(is_whole))
+        Ok(is_there)
     }
 
-    /// Writes the bytes of a file, and nothing else.
-    fn cat<W: Write>(&self, printer: &mut Printer<W>) -> Result<Outcome, Fault> {
-        let number = self.number("CNO")?;
-        let bytes = self
-            .view
-            .file(self.alloc, number, word(self.matches, "PATH"))?;
-        printer.out.write_all(bytes.as_slice())?;
-        Ok(Outcome::Done)
-    }
-
-    /// Tells what differs from one checkpoint to another, at and below a path.
-    fn diff<W: Write>(&self, printer: &mut Printer<W>) -> Result<Outcome, Fault> {
-        let pair = Pair {
-            old: self.number("A")?,
-            new: self.number("B")?,
-        };
-        let top = path_said(self.alloc, self.matches.get_str("PATH").unwrap_or(""))?;
-        let count = tell_checkpoint_differences(
-            self.alloc,
-            self.view,
-            pair,
-            top.as_slice(),
-            self.matches.get_flag("json"),
-            printer,
-        )?;
-        Ok(if count == 0 {
-            Outcome::Done
+    /// Lists what lies at and below a path of a checkpoint, with the bytes of files.
+    fn ls<W: Write>(&self, rt: &HostRuntime, printer: &mut Printer<W>) -> Result<Outcome, Fault> {
+        let shown = Shown::of(self.alloc, self.matches, self.clock, self.view)?;
+        if self.tell_entries(&shown, printer)? {
+            Ok(shown.outcome(rt))
         } else {
-            Outcome::Differs
-        })
+            Err(nothing_there(self.alloc, self.matches))
+        }
     }
 }
 
-/// Does a command that looks at a volume.
+/// The kept checkpoint that an argument means.
+fn number_said(
+    alloc: Global,
+    matches: &ArgMatches<'_>,
+    id: &str,
+    clock: &Clock<'_>,
+    view: &View<'_>,
+) -> Result<CheckpointNumber, Fault> {
+    view.number(alloc, word(matches, id), clock)
+}
+
+/// Writes the bytes of a file, and nothing else.
+fn cat<W: Write>(
+    alloc: Global,
+    matches: &ArgMatches<'_>,
+    clock: &Clock<'_>,
+    view: &View<'_>,
+    printer: &mut Printer<W>,
+) -> Result<Outcome, Fault> {
+    let number = number_said(alloc, matches, "CNO", clock, view)?;
+    let bytes = view.file(alloc, number, word(matches, "PATH"))?;
+    printer.out.write_all(bytes.as_slice())?;
+    Ok(Outcome::Done)
+}
+
+/// Tells what differs from one checkpoint to another, at and below a path.
+fn diff<W: Write>(
+    alloc: Global,
+    matches: &ArgMatches<'_>,
+    clock: &Clock<'_>,
+    view: &View<'_>,
+    printer: &mut Printer<W>,
+) -> Result<Outcome, Fault> {
+    let old = number_said(alloc, matches, "A", clock, view)?;
+    let new = number_said(alloc, matches, "B", clock, view)?;
+    let top = path_said(alloc, word(matches, "PATH"))?;
+    let comparing = Comparing {
+        view,
+        old,
+        new,
+        top: top.as_slice(),
+        is_json: matches.get_flag("json"),
+    };
+    Ok(match comparing.tell(alloc, printer)? {
+        0 => Outcome::Done,
+        _ => Outcome::Differs,
+    })
+}
+
+/// Does a command that looks at a volume. A late date is told first.
 fn look_at<W: Write>(
     rt: &HostRuntime,
     name: &str,
-    asked: Asked<'_, '_>,
+    matches: &ArgMatches<'_>,
+    clock: &Clock<'_>,
+    view: &View<'_>,
     printer: &mut Printer<W>,
 ) -> Result<Outcome, Fault> {
+    view.tell_late(rt, clock)?;
+    let alloc = rt.alloc();
+    let asked = Asked {
+        alloc,
+        matches,
+        clock,
+        view,
+    };
     match name {
         "list" => asked.list(rt, printer),
         "ls" => asked.ls(rt, printer),
-        "cat" => asked.cat(printer),
-        "diff" => asked.diff(printer),
-        "history" => history(
-            asked.alloc,
-            asked.view,
-            word(asked.matches, "PATH"),
-            asked.clock,
-            asked.matches.get_flag("json"),
-            printer,
-        ),
-        "df" => df(
-            asked.alloc,
-            asked.matches,
-            asked.view.path,
-            &asked.view.volume.pen,
-            printer,
-        ),
-        "show" => show(asked.alloc, asked.clock, asked.view, printer),
-        "find" => find(
-            asked.alloc,
-            asked.view,
-            word(asked.matches, "NAME"),
-            printer,
-        ),
-        "tree" => tree(rt, asked.matches, asked.clock, asked.view, printer),
-        "du" => du(rt, asked.matches, asked.clock, asked.view, printer),
-        "tar" => tar(rt, asked.matches, asked.clock, asked.view, printer),
-        _ => restore(rt, asked.matches, asked.clock, asked.view),
+        "cat" => cat(alloc, matches, clock, view, printer),
+        "diff" => diff(alloc, matches, clock, view, printer),
+        "history" => history(alloc, matches, clock, view, printer),
+        "df" => df(alloc, matches, view, printer),
+        "show" => show(alloc, clock, view, printer),
+        "find" => find(alloc, view, word(matches, "NAME"), printer),
+        "tree" => tree(rt, matches, clock, view, printer),
+        "du" => du(rt, matches, clock, view, printer),
+        "tar" => tar(rt, matches, clock, view, printer),
+        _ => restore(rt, matches, clock, view),
     }
-}
-
-fn look_into<W: Write>(
-    rt: &HostRuntime,
-    name: &str,
-    matches: &ArgMatches<'_>,
-    clock: Clock<'_>,
-    volume: &mut PenVolume<MemDevice>,
-    printer: &mut Printer<W>,
-) -> Result<Outcome, Fault> {
-    let view = View::of(rt, word(matches, "IMAGE"), volume, clock)?;
-    let asked = Asked {
-        alloc: rt.alloc(),
-        matches,
-        clock,
-        view: &view,
-    };
-    look_at(rt, name, asked, printer)
 }
 
 /// Opens the image that a command names, and does that command, which looks at it.
@@ -301,11 +296,9 @@ pub fn look<W: Write>(
     rt: &HostRuntime,
     name: &str,
     matches: &ArgMatches<'_>,
-    clock: Clock<'_>,
+    clock: &Clock<'_>,
     printer: &mut Printer<W>,
 ) -> Result<Outcome, Fault> {
-    match open_at(rt, word(matches, "IMAGE")) {
-        Ok(pen) => look_into(rt, name, matches, clock, &mut PenVolume { pen }, printer),
-        Err(fault) => Err(fault),
-    }
+    let view = View::at(rt, word(matches, "IMAGE"))?;
+    look_at(rt, name, matches, clock, &view, printer)
 }

@@ -42,6 +42,7 @@ mod views;
 use asking::{Clock, Outcome};
 use clap::ArgMatches;
 use faults::Fault;
+use jiff::tz::TimeZone;
 use moments::{Zones, now};
 use options::program;
 use printing::Printer;
@@ -57,7 +58,7 @@ fn done<W: Write>(
     rt: &HostRuntime,
     name: &str,
     matches: &ArgMatches<'_>,
-    clock: Clock<'_>,
+    clock: &Clock<'_>,
     printer: &mut Printer<W>,
 ) -> Result<Outcome, Fault> {
     match name {
@@ -75,23 +76,44 @@ fn done<W: Write>(
     }
 }
 
+/// Does a command, and writes what is left of what it tells. Answers the status.
+fn status_of<W: Write>(
+    rt: &HostRuntime,
+    name: &str,
+    matches: &ArgMatches<'_>,
+    clock: &Clock<'_>,
+    printer: &mut Printer<W>,
+) -> Result<u8, Fault> {
+    let outcome = done(rt, name, matches, clock, printer)?;
+    printer.out.flush()?;
+    Ok(outcome.status())
+}
+
+/// Does a command by the clock as a zone has it, and answers the status.
+fn run_in_zone(
+    rt: &HostRuntime,
+    name: &str,
+    matches: &ArgMatches<'_>,
+    zone: TimeZone<'_>,
+) -> Result<u8, Fault> {
+    let clock = Clock {
+        now: now(rt)?,
+        zone,
+    };
+    let mut printer = Printer {
+        out: BufWriter::new(rt.alloc(), rt.stdout())?,
+        is_terminal: rt.stdout().is_terminal(),
+    };
+    status_of(rt, name, matches, &clock, &mut printer)
+}
+
 /// Does the command that is asked for, and answers the status.
 fn run_command(rt: &HostRuntime, matches: &ArgMatches<'_>) -> Result<u8, Fault> {
     let Some((name, matches)) = matches.subcommand() else {
         return Ok(REFUSED);
     };
     let zones = Zones::read(rt);
-    let clock = Clock {
-        now: now(rt)?,
-        zone: zones.zone(),
-    };
-    let mut printer = Printer {
-        out: BufWriter::new(rt.alloc(), rt.stdout())?,
-        is_terminal: rt.stdout().is_terminal(),
-    };
-    let outcome = done(rt, name, matches, clock, &mut printer)?;
-    printer.out.flush()?;
-    Ok(outcome.status())
+    run_in_zone(rt, name, matches, zones.zone())
 }
 
 fn tell_fault(rt: &HostRuntime, fault: &Fault) -> u8 {
@@ -116,6 +138,18 @@ fn tell_words(rt: &HostRuntime, error: &clap::Error) -> u8 {
     }
 }
 
+/// Does what the words behind the program's name say, and answers the status.
+fn run_words(rt: &HostRuntime, words: &[&str]) -> io::Result<u8> {
+    let program = program(rt.alloc())?;
+    Ok(match program.try_get_matches_from(words) {
+        Ok(matches) => match run_command(rt, &matches) {
+            Ok(status) => status,
+            Err(fault) => tell_fault(rt, &fault),
+        },
+        Err(error) => tell_words(rt, &error),
+    })
+}
+
 fn run(rt: &HostRuntime) -> io::Result<u8> {
     let words: Vec<String> = env::args(rt)?.collect(rt.alloc())?;
     let words: Vec<&str> = words
@@ -123,14 +157,7 @@ fn run(rt: &HostRuntime) -> io::Result<u8> {
         .skip(1)
         .map(String::as_str)
         .collect(rt.alloc())?;
-    let program = program(rt.alloc())?;
-    Ok(match program.try_get_matches_from(words.as_slice()) {
-        Ok(matches) => match run_command(rt, &matches) {
-            Ok(status) => status,
-            Err(fault) => tell_fault(rt, &fault),
-        },
-        Err(error) => tell_words(rt, &error),
-    })
+    run_words(rt, words.as_slice())
 }
 
 fn main(rt: HostRuntime) -> ExitCode {

@@ -6,6 +6,7 @@ use crate::sizes::BLOCKS;
 use clap::ArgMatches;
 use nl_device::MemDevice;
 use nl_keep_pen::format_image;
+use nl_saving::SavePlace;
 use nl_types::{Geometry, VolError};
 use std::alloc::Global;
 use std::fs;
@@ -26,15 +27,14 @@ pub fn new_image(
     format_image(alloc, device, geometry, moment)
 }
 
-/// Makes a volume. A file that is there is left alone.
-pub fn init(
+fn init_in(
     rt: &HostRuntime,
     matches: &ArgMatches<'_>,
-    clock: Clock<'_>,
+    clock: &Clock<'_>,
+    place: &mut SavePlace<'_>,
 ) -> Result<Outcome, Fault> {
     let alloc = rt.alloc();
     let path = word(matches, "IMAGE");
-    let mut place = take_place(rt, path)?;
     match fs::symlink_metadata(rt, path) {
         Ok(_) => return Err(fault_at(alloc, path, "is there already")),
         Err(error) if error.kind() == ErrorKind::NotFound => {}
@@ -43,7 +43,17 @@ pub fn init(
     let segments = segments(rt, matches, "size", DEFAULT)?;
     let moment = moment(rt, matches, clock.now)?;
     match new_image(alloc, segments, BLOCKS, moment) {
-        Ok(image) => save_image(rt, path, &mut place, image.as_slice()),
+        Ok(image) => save_image(rt, path, place, image.as_slice()),
         Err(error) => Err(volume_fault(alloc, path, error)),
     }
+}
+
+/// Makes a volume. A file that is there is left alone.
+pub fn init(
+    rt: &HostRuntime,
+    matches: &ArgMatches<'_>,
+    clock: &Clock<'_>,
+) -> Result<Outcome, Fault> {
+    let mut place = take_place(rt, word(matches, "IMAGE"))?;
+    init_in(rt, matches, clock, &mut place)
 }

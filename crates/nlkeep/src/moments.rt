@@ -64,9 +64,9 @@ pub fn now(rt: &HostRuntime) -> Result<u64, Fault> {
     })
 }
 
-fn date_of(zone: TimeZone<'_>, moment: u64) -> Result<DateTime, Error> {
+fn date_of(zone: &TimeZone<'_>, moment: u64) -> Result<DateTime, Error> {
     let second = i64::try_from(moment).unwrap_or(i64::MAX);
-    let zoned = Timestamp::from_second(second)?.to_zoned(zone);
+    let zoned = Timestamp::from_second(second)?.to_zoned(*zone);
     Ok(zoned.datetime())
 }
 
@@ -95,7 +95,7 @@ fn periods_of(date: DateTime) -> Periods {
 }
 
 /// The periods that a moment lies in, in a zone. Moments that have no date lie in one period, the last.
-pub fn periods(zone: TimeZone<'_>, moment: u64) -> Periods {
+pub fn periods(zone: &TimeZone<'_>, moment: u64) -> Periods {
     match date_of(zone, moment) {
         Ok(date) => periods_of(date),
         Err(_) => Periods {
@@ -109,7 +109,7 @@ pub fn periods(zone: TimeZone<'_>, moment: u64) -> Periods {
 }
 
 /// A moment as a date and time, or as the number of its seconds where it has no date.
-pub fn shown(alloc: Global, zone: TimeZone<'_>, moment: u64) -> Result<String, Fault> {
+pub fn shown(alloc: Global, zone: &TimeZone<'_>, moment: u64) -> Result<String, Fault> {
     match date_of(zone, moment) {
         Ok(date) => match date.strftime(alloc, FORM) {
             Ok(text) => Ok(text),
@@ -120,25 +120,24 @@ pub fn shown(alloc: Global, zone: TimeZone<'_>, moment: u64) -> Result<String, F
     }
 }
 
-fn last_second_of(date: Date, zone: TimeZone<'_>) -> Result<i64, Error> {
+fn last_second_of(date: Date, zone: &TimeZone<'_>) -> Result<i64, Error> {
     let end = DateTime::new(date.year(), date.month(), date.day(), 23, 59, 59, 0)?;
-    Ok(end.to_zoned(zone)?.timestamp().as_second())
+    Ok(end.to_zoned(*zone)?.timestamp().as_second())
 }
 
-fn yesterday(now: u64, zone: TimeZone<'_>) -> Result<i64, Error> {
-    let second = i64::try_from(now).unwrap_or(i64::MAX);
-    let today = Timestamp::from_second(second)?.to_zoned(zone);
-    let day = today.datetime().date().checked_sub(1i64.days())?;
+fn yesterday(now: u64, zone: &TimeZone<'_>) -> Result<i64, Error> {
+    let today = date_of(zone, now)?;
+    let day = today.date().checked_sub(1i64.days())?;
     last_second_of(day, zone)
 }
 
-fn second_said(word: &str, now: u64, zone: TimeZone<'_>) -> Result<i64, Error> {
+fn second_said(word: &str, now: u64, zone: &TimeZone<'_>) -> Result<i64, Error> {
     if word == "yesterday" {
         return yesterday(now, zone);
     }
     if word.contains('T') {
         let at: DateTime = word.parse()?;
-        return Ok(at.to_zoned(zone)?.timestamp().as_second());
+        return Ok(at.to_zoned(*zone)?.timestamp().as_second());
     }
     let day: Date = word.parse()?;
     last_second_of(day, zone)
@@ -146,7 +145,7 @@ fn second_said(word: &str, now: u64, zone: TimeZone<'_>) -> Result<i64, Error> {
 
 /// The moment that a date in the zone says: `2026-11-26T18:00`, or the last second of `2026-11-26` or of
 /// `yesterday`. None where it is no date, or one before 1970.
-pub fn moment_said(word: &str, now: u64, zone: TimeZone<'_>) -> Option<u64> {
+pub fn moment_said(word: &str, now: u64, zone: &TimeZone<'_>) -> Option<u64> {
     let second = second_said(word, now, zone).ok()?;
     u64::try_from(second).ok()
 }

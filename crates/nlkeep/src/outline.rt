@@ -15,22 +15,27 @@ use std::io::{self, Write};
 
 /// What a checkpoint shows, and where a command looks.
 #[derive(Drop)]
-struct Shown {
-    number: CheckpointNumber,
-    opened: Opened,
-    top: Path,
+pub struct Shown {
+    pub number: CheckpointNumber,
+    pub opened: Opened,
+    pub top: Path,
+}
+
+/// That nothing stands at the path that a command names.
+pub fn nothing_there(alloc: Global, matches: &ArgMatches<'_>) -> Fault {
+    fault_at(alloc, word(matches, "PATH"), "nothing is there")
 }
 
 impl Shown {
-    fn of(
+    pub fn of(
         alloc: Global,
         matches: &ArgMatches<'_>,
-        clock: Clock<'_>,
+        clock: &Clock<'_>,
         view: &View<'_>,
     ) -> Result<Shown, Fault> {
         let number = view.number(alloc, word(matches, "CNO"), clock)?;
         let opened = view.shown(alloc, number)?;
-        let top = path_said(alloc, matches.get_str("PATH").unwrap_or(""))?;
+        let top = path_said(alloc, word(matches, "PATH"))?;
         Ok(Shown {
             number,
             opened,
@@ -59,8 +64,22 @@ impl Shown {
         Ok(all)
     }
 
+    /// The same. It is refused where nothing stands there.
+    fn found<'s>(
+        &'s self,
+        alloc: Global,
+        matches: &ArgMatches<'_>,
+        view: &View<'_>,
+    ) -> Result<Vec<Below<'s>>, Fault> {
+        let all = self.seen(alloc, view)?;
+        if all.is_empty() {
+            return Err(nothing_there(alloc, matches));
+        }
+        Ok(all)
+    }
+
     /// Tells the lines of manifests there that show nothing.
-    fn outcome(&self, rt: &HostRuntime) -> Outcome {
+    pub fn outcome(&self, rt: &HostRuntime) -> Outcome {
         Outcome::of(tell_refused(rt, self.opened.refused.as_slice(), self.top.as_slice()))
     }
 }
@@ -120,15 +139,15 @@ impl<W: Write> Printer<W> {
     }
 
     /// An entry with its branch.
-    fn outline(&mut self, below: Below<'_>, above: &[bool], is_last: bool) -> io::Result<()> {
+    fn outline(&mut self, below: &Below<'_>, above: &[bool], is_last: bool) -> io::Result<()> {
         match below.path {
             [.., name] => {
                 if below.depth > 0 {
                     self.branch(above, is_last)?;
                 }
-                self.named(name.as_slice(), below.seen)?;
+                self.named(name.as_slice(), &below.seen)?;
             }
-            [] => self.named(b"", below.seen)?,
+            [] => self.named(b"", &below.seen)?,
         }
         self.line()
     }
@@ -140,7 +159,7 @@ fn draw<W: Write>(alloc: Global, all: &[Below<'_>], printer: &mut Printer<W>) ->
     for below in all {
         let is_last = last.pop().unwrap_or(true);
         above.truncate(below.depth.saturating_sub(1));
-        printer.outline(*below, above.as_slice(), is_last)?;
+        printer.outline(below, above.as_slice(), is_last)?;
         if below.depth > 0 {
             above.push(is_last)?;
         }
@@ -152,16 +171,13 @@ fn draw<W: Write>(alloc: Global, all: &[Below<'_>], printer: &mut Printer<W>) ->
 pub fn tree<W: Write>(
     rt: &HostRuntime,
     matches: &ArgMatches<'_>,
-    clock: Clock<'_>,
+    clock: &Clock<'_>,
     view: &View<'_>,
     printer: &mut Printer<W>,
 ) -> Result<Outcome, Fault> {
     let alloc = rt.alloc();
     let shown = Shown::of(alloc, matches, clock, view)?;
-    let all = shown.seen(alloc, view)?;
-    if all.is_empty() {
-        return Err(fault_at(alloc, word(matches, "PATH"), "nothing is there"));
-    }
+    let all = shown.found(alloc, matches, view)?;
     draw(alloc, all.as_slice(), printer)?;
     Ok(shown.outcome(rt))
 }
@@ -191,43 +207,49 @@ fn sums(alloc: Global, all: &[Below<'_>]) -> Result<Vec<u64>, AllocError> {
     Ok(sums)
 }
 
-fn is_folder(below: Below<'_>) -> bool {
+fn is_folder(below: &Below<'_>) -> bool {
     matches!(below.seen.entry.object, HostObject::Directory)
 }
 
-fn is_told(below: Below<'_>) -> bool {
+fn is_told(below: &Below<'_>) -> bool {
     below.depth == 0 || is_folder(below)
 }
 
 impl<W: Write> Printer<W> {
     /// How many bytes lie at and below a path, in a line.
-    fn sum(&mut self, below: Below<'_>, sum: u64) -> io::Result<()> {
+    fn sum(&mut self, below: &Below<'_>, sum: u64) -> io::Result<()> {
         write!(self.out, "{sum:>10}  ")?;
         self.path(below.rest, is_folder(below))?;
         self.line()
     }
 }
 
+fn tell_sums<W: Write>(
+    alloc: Global,
+    all: &[Below<'_>],
+    printer: &mut Printer<W>,
+) -> Result<(), Fault> {
+    let sums = sums(alloc, all)?;
+    for (below, sum) in all.iter().zip(sums.iter()) {
+        if is_told(below) {
+            printer.sum(below, *sum)?;
+        }
+    }
+    Ok(())
+}
+
 /// Tells how many bytes the files of each folder have, at and below a path of a checkpoint.
 pub fn du<W: Write>(
     rt: &HostRuntime,
     matches: &ArgMatches<'_>,
-    clock: Clock<'_>,
+    clock: &Clock<'_>,
     view: &View<'_>,
     printer: &mut Printer<W>,
 ) -> Result<Outcome, Fault> {
     let alloc = rt.alloc();
     let shown = Shown::of(alloc, matches, clock, view)?;
-    let all = shown.seen(alloc, view)?;
-    if all.is_empty() {
-        return Err(fault_at(alloc, word(matches, "PATH"), "nothing is there"));
-    }
-    let sums = sums(alloc, all.as_slice())?;
-    for (below, sum) in all.iter().zip(sums.iter()) {
-        if is_told(*below) {
-            printer.sum(*below, *sum)?;
-        }
-    }
+    let all = shown.found(alloc, matches, view)?;
+    tell_sums(alloc, all.as_slice(), printer)?;
     Ok(shown.outcome(rt))
 }
 
@@ -236,6 +258,30 @@ pub fn du<W: Write>(
 struct FolderObject {
     folder: String,
     bytes: u64,
+}
+
+fn tell_folder<W: Write>(
+    alloc: Global,
+    path: &[Name],
+    bytes: u64,
+    printer: &mut Printer<W>,
+) -> Result<(), Fault> {
+    let folder = path_text(alloc, path)?;
+    object(alloc, &FolderObject { folder, bytes }, printer)
+}
+
+fn tell_all_folders<W: Write>(
+    alloc: Global,
+    all: &[Below<'_>],
+    printer: &mut Printer<W>,
+) -> Result<(), Fault> {
+    let sums = sums(alloc, all)?;
+    for (below, sum) in all.iter().zip(sums.iter()) {
+        if is_folder(below) {
+            tell_folder(alloc, below.path, *sum, printer)?;
+        }
+    }
+    Ok(())
 }
 
 /// Tells each folder of a kept checkpoint by an object, in the order of their paths.
@@ -251,15 +297,5 @@ pub fn tell_folders<W: Write>(
         top: Items::new(alloc),
     };
     let all = shown.seen(alloc, view)?;
-    let sums = sums(alloc, all.as_slice())?;
-    for (below, sum) in all.iter().zip(sums.iter()) {
-        if is_folder(*below) {
-            let told = FolderObject {
-                folder: path_text(alloc, below.path)?,
-                bytes: *sum,
-            };
-            object(alloc, &told, printer)?;
-        }
-    }
-    Ok(())
+    tell_all_folders(alloc, all.as_slice(), printer)
 }

@@ -26,14 +26,19 @@ fn part_said(alloc: Global, tree: HostTree, word: &str) -> Result<HostTree, Faul
     Ok(part)
 }
 
+/// The path of a name in the root.
+fn path_of_name(alloc: Global, name: &[u8]) -> Result<Path, AllocError> {
+    let mut path = Items::new(alloc);
+    path.push(Items::from_slice(alloc, name)?)?;
+    Ok(path)
+}
+
 /// A file or a link alone stands under its name in a folder.
 fn under_name(alloc: Global, part: HostTree, path: &[Name]) -> Result<HostTree, AllocError> {
     let mut tree = Items::new(alloc);
     if let Some(name) = path.last() {
         for (_, entry) in part.into_vec() {
-            let mut path = Items::new(alloc);
-            path.push(Items::from_slice(alloc, name.as_slice())?)?;
-            tree.push((path, entry))?;
+            tree.push((path_of_name(alloc, name.as_slice())?, entry))?;
         }
     }
     Ok(tree)

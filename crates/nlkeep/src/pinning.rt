@@ -1,17 +1,16 @@
 //! `pin`: a checkpoint stays whatever rules of retention say, or no longer does.
-use crate::asking::{Clock, Outcome, moment, most, word};
+use crate::asking::{Clock, Outcome, word};
 use crate::checkpoints::is_minor;
 use crate::faults::{Fault, fault_at};
-use crate::images::{open_image, read_image, save_image, take_place};
+use crate::images::{read_image, save_told, take_place};
 use crate::printing::Printer;
-use crate::storing::{Stores, Wanted, store_in, tell_growth};
+use crate::storing::{Keeping, Stores, Wanted, store_in, tell_growth};
 use crate::views::View;
 use clap::ArgMatches;
-use nl_device::MemDevice;
 use nl_folders::Tree;
-use nl_keep_pen::PenVolume;
 use nl_pins::{Pins, with_pins};
-use nl_types::CheckpointNumber;
+use nl_saving::SavePlace;
+use nl_types::{CheckpointNumber, Row};
 use std::alloc::Global;
 use std::io::Write;
 
@@ -25,7 +24,7 @@ enum Change<'a> {
 
 impl<'a> Change<'a> {
     fn said(alloc: Global, matches: &ArgMatches<'a>) -> Result<Change<'a>, Fault> {
-        let text = matches.get_str("TEXT").unwrap_or("");
+        let text = word(matches, "TEXT");
         if matches.get_flag("off") {
             if !text.is_empty() {
                 return Err(fault_at(alloc, text, "nothing is noted with -d"));
@@ -51,7 +50,7 @@ fn lasting(
     alloc: Global,
     view: &View<'_>,
     word: &str,
-    clock: Clock<'_>,
+    clock: &Clock<'_>,
 ) -> Result<CheckpointNumber, Fault> {
     let number = view.number(alloc, word, clock)?;
     let rows = view.rows.as_slice();
@@ -68,14 +67,13 @@ fn lasting(
 /// The pins with one of them changed.
 fn changed(
     alloc: Global,
-    view: &View<'_>,
+    pins: Pins,
+    rows: &[Row],
     word: &str,
     number: CheckpointNumber,
-    change: Change<'_>,
+    change: &Change<'_>,
     moment: u64,
 ) -> Result<Pins, Fault> {
-    let pins = view.sound_pins(alloc)?;
-    let rows = view.rows.as_slice();
     match change {
         Change::On(text) => Ok(pins.with(alloc, rows, number, text.as_bytes(), moment)?),
         Change::Off if pins.text(number).is_some() => Ok(pins.without(alloc, rows, number)?),
@@ -84,72 +82,72 @@ fn changed(
 }
 
 /// Whether a checkpoint is pinned with just this text.
-fn is_pinned_so(
-    alloc: Global,
-    view: &View<'_>,
-    number: CheckpointNumber,
-    change: Change<'_>,
-) -> Result<bool, Fault> {
-    let pins = view.sound_pins(alloc)?;
-    Ok(match change {
+fn is_pinned_so(pins: &Pins, number: CheckpointNumber, change: &Change<'_>) -> bool {
+    match change {
         Change::On(text) => pins.text(number) == Some(text.as_bytes()),
         Change::Off => false,
-    })
+    }
+}
+
+/// The current tree with other pins.
+fn tree_with(alloc: Global, view: &View<'_>, pins: Pins) -> Result<Tree, Fault> {
+    let pins = pins.printed(alloc)?;
+    Ok(with_pins(alloc, pins, view.present_tree(alloc)?)?)
 }
 
 impl Pinning {
-    fn of(
-        rt: &HostRuntime,
-        matches: &ArgMatches<'_>,
-        clock: Clock<'_>,
-        change: Change<'_>,
+    fn in_view(
+        alloc: Global,
+        view: &View<'_>,
+        word: &str,
+        clock: &Clock<'_>,
+        change: &Change<'_>,
         moment: u64,
-        volume: &mut PenVolume<MemDevice>,
     ) -> Result<Pinning, Fault> {
-        let alloc = rt.alloc();
-        let view = View::of(rt, word(matches, "IMAGE"), volume, clock)?;
-        let word = word(matches, "CNO");
-        let number = lasting(alloc, &view, word, clock)?;
-        if is_pinned_so(alloc, &view, number, change)? {
+        let number = lasting(alloc, view, word, clock)?;
+        let pins = view.sound_pins(alloc)?;
+        if is_pinned_so(&pins, number, change) {
             return Ok(Pinning { number, tree: None });
         }
-        let pins = changed(alloc, &view, word, number, change, moment)?;
-        let tree = with_pins(alloc, pins.printed(alloc)?, view.present_tree(alloc)?)?;
+        let rows = view.rows.as_slice();
+        let pins = changed(alloc, pins, rows, word, number, change, moment)?;
+        let tree = tree_with(alloc, view, pins)?;
         Ok(Pinning {
             number,
             tree: Some(tree),
         })
     }
 
-    fn of_image(
+    fn of(
         rt: &HostRuntime,
         matches: &ArgMatches<'_>,
-        clock: Clock<'_>,
-        change: Change<'_>,
-        moment: u64,
+        clock: &Clock<'_>,
+        change: &Change<'_>,
+        keeping: &Keeping<'_>,
         image: &[u8],
     ) -> Result<Pinning, Fault> {
-        match open_image(rt.alloc(), word(matches, "IMAGE"), image) {
-            Ok(pen) => Pinning::of(rt, matches, clock, change, moment, &mut PenVolume { pen }),
-            Err(fault) => Err(fault),
-        }
+        let view = View::of(rt, keeping.path, image, clock)?;
+        let word = word(matches, "CNO");
+        Pinning::in_view(rt.alloc(), &view, word, clock, change, keeping.moment)
     }
 }
 
-/// What is told of a pin that is changed by a snapshot.
-fn told_of(
-    alloc: Global,
-    stores: &Stores,
+/// A pin that is changed by a snapshot.
+#[derive(Clone, Copy)]
+struct Pinned<'a> {
     number: CheckpointNumber,
-    change: Change<'_>,
-) -> Result<Vec<u8>, Fault> {
+    change: &'a Change<'a>,
+}
+
+/// What is told of a pin that is changed by a snapshot.
+fn told_of(alloc: Global, stores: &Stores, pinned: &Pinned<'_>) -> Result<Vec<u8>, Fault> {
     let mut printer = Printer {
         out: Vec::new(alloc),
         is_terminal: false,
     };
-    tell_growth(alloc, stores.grown, &mut printer)?;
-    let (snapshot, number) = (stores.stored.number.get(), number.get());
-    let what = match change {
+    tell_growth(stores.grown, &mut printer)?;
+    let (snapshot, number) = (stores.stored.number.get(), pinned.number.get());
+    let what = match pinned.change {
         Change::On(_) => "pinned",
         Change::Off => "not pinned any more",
     };
@@ -160,37 +158,69 @@ fn told_of(
     Ok(printer.out)
 }
 
+/// Stores a tree with other pins in the volume of an image, and saves that. What was done is told once the image
+/// is there.
+fn store<W: Write>(
+    rt: &HostRuntime,
+    path: &str,
+    image: &[u8],
+    wanted: &Wanted,
+    pinned: &Pinned<'_>,
+    place: &mut SavePlace<'_>,
+    printer: &mut Printer<W>,
+) -> Result<Outcome, Fault> {
+    let alloc = rt.alloc();
+    let stores = store_in(alloc, path, image, wanted)?;
+    let told = told_of(alloc, &stores, pinned)?;
+    save_told(
+        rt,
+        path,
+        place,
+        stores.image.as_slice(),
+        told.as_slice(),
+        printer,
+    )
+}
+
+fn tell_pinned<W: Write>(
+    number: CheckpointNumber,
+    printer: &mut Printer<W>,
+) -> Result<Outcome, Fault> {
+    writeln!(printer.out, "checkpoint {} is pinned already", number.get())?;
+    Ok(Outcome::Done)
+}
+
+fn pin_in<W: Write>(
+    rt: &HostRuntime,
+    matches: &ArgMatches<'_>,
+    clock: &Clock<'_>,
+    change: &Change<'_>,
+    place: &mut SavePlace<'_>,
+    printer: &mut Printer<W>,
+) -> Result<Outcome, Fault> {
+    let keeping = Keeping::said(rt, matches, clock)?;
+    let image = read_image(rt, keeping.path)?;
+    let image = image.as_slice();
+    let Pinning { number, tree } = Pinning::of(rt, matches, clock, change, &keeping, image)?;
+    match tree {
+        Some(tree) => {
+            let wanted = keeping.wanted(tree);
+            let pinned = Pinned { number, change };
+            store(rt, keeping.path, image, &wanted, &pinned, place, printer)
+        }
+        None => tell_pinned(number, printer),
+    }
+}
+
 /// Changes the pin of a checkpoint, as the next snapshot, and saves the image. Where it is so already, nothing
 /// changes.
 pub fn pin<W: Write>(
     rt: &HostRuntime,
     matches: &ArgMatches<'_>,
-    clock: Clock<'_>,
+    clock: &Clock<'_>,
     printer: &mut Printer<W>,
 ) -> Result<Outcome, Fault> {
-    let alloc = rt.alloc();
-    let path = word(matches, "IMAGE");
-    let change = Change::said(alloc, matches)?;
-    let mut place = take_place(rt, path)?;
-    let moment = moment(rt, matches, clock.now)?;
-    let most = most(rt, matches)?;
-    let image = read_image(rt, path)?;
-    let Pinning { number, tree } = Pinning::of_image(
-        rt,
-        matches,
-        clock,
-        change,
-        moment,
-        image.as_slice(),
-    )?;
-    let Some(tree) = tree else {
-        writeln!(printer.out, "checkpoint {} is pinned already", number.get())?;
-        return Ok(Outcome::Done);
-    };
-    let wanted = Wanted { tree, moment, most };
-    let stores = store_in(alloc, path, image.as_slice(), &wanted)?;
-    let told = told_of(alloc, &stores, number, change)?;
-    let saved = save_image(rt, path, &mut place, stores.image.as_slice())?;
-    printer.out.write_all(told.as_slice())?;
-    Ok(saved)
+    let change = Change::said(rt.alloc(), matches)?;
+    let mut place = take_place(rt, word(matches, "IMAGE"))?;
+    pin_in(rt, matches, clock, &change, &mut place, printer)
 }

@@ -1,8 +1,9 @@
 //! What goes to standard output and error.
+use crate::parts::path_said;
 use nl_folders::{Name, Path, begins_with};
 use nl_host::{LeftOut, Reason};
 use nl_manifests::{Attributes, HostDifference, HostEntry, HostObject, LineFault};
-use std::alloc::Global;
+use std::alloc::{AllocError, Global};
 use std::io::{self, IsTerminal, Write};
 use std::str;
 
@@ -85,7 +86,7 @@ pub struct Seen<'t> {
     pub size: u64,
 }
 
-fn is_folder(seen: Seen<'_>) -> bool {
+fn is_folder(seen: &Seen<'_>) -> bool {
     matches!(seen.entry.object, HostObject::Directory)
 }
 
@@ -102,7 +103,7 @@ fn sign(difference: HostDifference) -> char {
 
 impl<W: Write> Printer<W> {
     /// Where a link leads to.
-    fn target(&mut self, seen: Seen<'_>) -> io::Result<()> {
+    fn target(&mut self, seen: &Seen<'_>) -> io::Result<()> {
         if let HostObject::Link(target) = &seen.entry.object {
             self.out.write_all(b" -> ")?;
             self.name(target.as_slice())?;
@@ -111,13 +112,13 @@ impl<W: Write> Printer<W> {
     }
 
     /// A path, and where it leads to, if it is that of a link.
-    fn place(&mut self, path: &[Name], seen: Seen<'_>) -> io::Result<()> {
+    fn place(&mut self, path: &[Name], seen: &Seen<'_>) -> io::Result<()> {
         self.path(path, is_folder(seen))?;
         self.target(seen)
     }
 
     /// A name, with a slash behind that of a directory, and where it leads to, if it is that of a link.
-    pub fn named(&mut self, name: &[u8], seen: Seen<'_>) -> io::Result<()> {
+    pub fn named(&mut self, name: &[u8], seen: &Seen<'_>) -> io::Result<()> {
         self.name(name)?;
         if is_folder(seen) {
             self.out.write_all(b"/")?;
@@ -126,7 +127,7 @@ impl<W: Write> Printer<W> {
     }
 
     /// What stands at a path, in a line: how many bytes a file has, and the path.
-    pub fn entry(&mut self, path: &[Name], seen: Seen<'_>) -> io::Result<()> {
+    pub fn entry(&mut self, path: &[Name], seen: &Seen<'_>) -> io::Result<()> {
         match seen.entry.object {
             HostObject::File(_) => write!(self.out, "{:>10}  ", seen.size)?,
             _ => write!(self.out, "{:>10}  ", "")?,
@@ -135,33 +136,40 @@ impl<W: Write> Printer<W> {
         self.line()
     }
 
-    /// What stands at a path, if anything, in a line without the path.
-    pub fn standing(&mut self, seen: Option<Seen<'_>>) -> io::Result<()> {
+    /// The same behind the number of a checkpoint.
+    pub fn found(&mut self, number: u64, path: &[Name], seen: &Seen<'_>) -> io::Result<()> {
+        write!(self.out, "{number:>8}  ")?;
+        self.entry(path, seen)
+    }
+
+    /// What stands at a path of a checkpoint, if anything, in a line without the path.
+    pub fn standing(&mut self, number: u64, date: &str, seen: Option<Seen<'_>>) -> io::Result<()> {
+        write!(self.out, "{number:>8}  {date}  ")?;
         match seen {
             Some(seen) => match &seen.entry.object {
                 HostObject::File(_) => write!(self.out, "{:>10} bytes", seen.size)?,
-                HostObject::Directory => write!(self.out, "folder")?,
+                HostObject::Directory => self.out.write_all(b"folder")?,
                 HostObject::Link(target) => {
                     self.out.write_all(b"-> ")?;
                     self.name(target.as_slice())?;
                 }
             },
-            None => write!(self.out, "gone")?,
+            None => self.out.write_all(b"gone")?,
         }
         self.line()
     }
 
     /// What stood there before.
-    fn earlier(&mut self, old: Seen<'_>) -> io::Result<()> {
+    fn earlier(&mut self, old: &Seen<'_>) -> io::Result<()> {
         match old.entry.object {
-            HostObject::Directory => write!(self.out, "a folder before"),
-            HostObject::Link(_) => write!(self.out, "a link before"),
+            HostObject::Directory => self.out.write_all(b"a folder before"),
+            HostObject::Link(_) => self.out.write_all(b"a link before"),
             HostObject::File(_) => write!(self.out, "a file of {} bytes before", old.size),
         }
     }
 
     /// How many bytes a file has, and what else stood there.
-    fn replaced(&mut self, old: Seen<'_>, new: Seen<'_>) -> io::Result<()> {
+    fn replaced(&mut self, old: &Seen<'_>, new: &Seen<'_>) -> io::Result<()> {
         self.out.write_all(b" (")?;
         if let HostObject::File(_) = new.entry.object {
             write!(self.out, "{} bytes, ", new.size)?;
@@ -171,7 +179,7 @@ impl<W: Write> Printer<W> {
     }
 
     /// How many bytes a file has.
-    fn size(&mut self, seen: Seen<'_>) -> io::Result<()> {
+    fn size(&mut self, seen: &Seen<'_>) -> io::Result<()> {
         match seen.entry.object {
             HostObject::File(_) => write!(self.out, " ({} bytes)", seen.size),
             _ => Ok(()),
@@ -193,7 +201,7 @@ impl<W: Write> Printer<W> {
     }
 
     /// What is other of two entries of one kind.
-    fn changed(&mut self, old: Seen<'_>, new: Seen<'_>) -> io::Result<()> {
+    fn changed(&mut self, old: &Seen<'_>, new: &Seen<'_>) -> io::Result<()> {
         if let HostObject::Link(target) = &old.entry.object {
             if !is_to(new, target.as_slice()) {
                 self.out.write_all(b" (to ")?;
@@ -208,7 +216,12 @@ impl<W: Write> Printer<W> {
     }
 
     /// What is other where something stood and something stands.
-    fn both(&mut self, difference: HostDifference, old: Seen<'_>, new: Seen<'_>) -> io::Result<()> {
+    fn both(
+        &mut self,
+        difference: HostDifference,
+        old: &Seen<'_>,
+        new: &Seen<'_>,
+    ) -> io::Result<()> {
         match difference {
             HostDifference::Replaced => self.replaced(old, new),
             HostDifference::Rewritten => {
@@ -230,12 +243,12 @@ impl<W: Write> Printer<W> {
         write!(self.out, "{} ", sign(difference))?;
         match (old, new) {
             (Some(old), Some(new)) => {
-                self.place(path, new)?;
-                self.both(difference, old, new)?;
+                self.place(path, &new)?;
+                self.both(difference, &old, &new)?;
             }
             (Some(one), None) | (None, Some(one)) => {
-                self.place(path, one)?;
-                self.size(one)?;
+                self.place(path, &one)?;
+                self.size(&one)?;
             }
             (None, None) => {}
         }
@@ -244,7 +257,7 @@ impl<W: Write> Printer<W> {
 }
 
 /// Whether it is a link that leads there.
-fn is_to(seen: Seen<'_>, target: &[u8]) -> bool {
+fn is_to(seen: &Seen<'_>, target: &[u8]) -> bool {
     match &seen.entry.object {
         HostObject::Link(to) => to.as_slice() == target,
         _ => false,
@@ -266,7 +279,7 @@ pub fn tell_left_out(rt: &HostRuntime, all: &[LeftOut]) {
 
 impl<W: Write> Printer<W> {
     fn left_out(&mut self, left: &LeftOut) -> io::Result<()> {
-        write!(self.out, "nlkeep: left out: ")?;
+        self.out.write_all(b"nlkeep: left out: ")?;
         self.text(left.path.as_str())?;
         writeln!(self.out, ": {}", left.reason)
     }
@@ -283,7 +296,7 @@ fn fault(fault: LineFault) -> &'static str {
 
 impl<W: Write> Printer<W> {
     fn refused(&mut self, path: &[Name], why: LineFault) -> io::Result<()> {
-        write!(self.out, "nlkeep: left out: ")?;
+        self.out.write_all(b"nlkeep: left out: ")?;
         self.path(path, false)?;
         writeln!(self.out, ": {}", fault(why))
     }
@@ -306,9 +319,19 @@ pub fn tell_refused(rt: &HostRuntime, all: &[(Path, LineFault)], top: &[Name]) -
     is_whole
 }
 
+/// The same of the path that a word says.
+pub fn tell_refused_below(
+    rt: &HostRuntime,
+    all: &[(Path, LineFault)],
+    word: &str,
+) -> Result<bool, AllocError> {
+    let top = path_said(rt.alloc(), word)?;
+    Ok(tell_refused(rt, all, top.as_slice()))
+}
+
 impl<W: Write> Printer<W> {
     fn path_left_out(&mut self, path: &[Name], reason: Reason) -> io::Result<()> {
-        write!(self.out, "nlkeep: left out: ")?;
+        self.out.write_all(b"nlkeep: left out: ")?;
         self.path(path, false)?;
         writeln!(self.out, ": {reason}")
     }

@@ -1,5 +1,5 @@
 //! What is told of work that takes more than a second, on standard error where that is a terminal.
-use crate::sizes::size_shown;
+use crate::sizes::Size;
 use nl_host::Watching;
 use std::io::IsTerminal;
 use std::time::Instant;
@@ -44,9 +44,8 @@ impl<'a> Progress<'a> {
         if !self.is_due() {
             return;
         }
-        if let Ok(size) = size_shown(self.rt.alloc(), bytes) {
-            let _ = eprint!(self.rt; "\rreading: {files} files, {size}\u{1b}[K");
-        }
+        let size = Size(bytes);
+        let _ = eprint!(self.rt; "\rreading: {files} files, {size}\u{1b}[K");
     }
 
     /// Tells what is done now, in the place of what was told before.

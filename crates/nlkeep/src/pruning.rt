@@ -1,17 +1,17 @@
 //! `prune`: checkpoints are removed that no rule keeps, snapshots too.
-use crate::asking::{Clock, Outcome, moment, most, word};
+use crate::asking::{Clock, Outcome, moment, word};
 use crate::checkpoints::is_minor;
 use crate::faults::{Fault, fault_at, volume_fault};
-use crate::images::{device_for, open_image, read_image, save_image, take_place};
+use crate::images::{device_for, open_image, read_image, save_told, take_place};
 use crate::moments::{periods, shown};
 use crate::printing::Printer;
 use crate::views::View;
 use clap::ArgMatches;
 use jiff::tz::TimeZone;
-use nl_device::MemDevice;
-use nl_keep_pen::{PenVolume, Round, forget_image};
+use nl_keep_pen::{Round, forget_image};
 use nl_pins::{Dated, Pins, Rules, descends, expired};
-use nl_types::{CheckpointNumber, Items, Row, VolError, decimal};
+use nl_saving::SavePlace;
+use nl_types::{CheckpointNumber, Items, Row, decimal};
 use std::alloc::Global;
 use std::io::Write;
 
@@ -51,7 +51,7 @@ fn dated_rows(
     alloc: Global,
     rows: &[Row],
     pins: &Pins,
-    zone: TimeZone<'_>,
+    zone: &TimeZone<'_>,
 ) -> Result<Vec<Dated>, Fault> {
     let mut dated = Vec::new(alloc);
     for row in rows.iter().rev() {
@@ -71,7 +71,7 @@ fn unkept(
     alloc: Global,
     rules: &Rules,
     view: &View<'_>,
-    zone: TimeZone<'_>,
+    zone: &TimeZone<'_>,
 ) -> Result<Vec<CheckpointNumber>, Fault> {
     let pins = view.sound_pins(alloc)?;
     let dated = dated_rows(alloc, view.rows.as_slice(), &pins, zone)?;
@@ -90,37 +90,11 @@ struct Pruning {
 }
 
 impl Pruning {
-    fn of(
-        rt: &HostRuntime,
-        path: &str,
-        volume: &mut PenVolume<MemDevice>,
-        rules: &Rules,
-        clock: Clock<'_>,
-    ) -> Result<Pruning, Fault> {
-        let view = View::of(rt, path, volume, clock)?;
-        let going = unkept(rt.alloc(), rules, &view, clock.zone)?;
-        let rows = view.rows;
-        Ok(Pruning { rows, going })
-    }
-
-    fn of_image(
-        rt: &HostRuntime,
-        path: &str,
-        image: &[u8],
-        rules: &Rules,
-        clock: Clock<'_>,
-    ) -> Result<Pruning, Fault> {
-        match open_image(rt.alloc(), path, image) {
-            Ok(pen) => Pruning::of(rt, path, &mut PenVolume { pen }, rules, clock),
-            Err(fault) => Err(fault),
-        }
-    }
-
     /// Tells of each checkpoint that goes, the oldest first.
     fn tell<W: Write>(
         &self,
         alloc: Global,
-        zone: TimeZone<'_>,
+        zone: &TimeZone<'_>,
         printer: &mut Printer<W>,
     ) -> Result<(), Fault> {
         for row in self.rows.as_slice() {
@@ -133,6 +107,13 @@ impl Pruning {
     }
 }
 
+/// How many segments of an image are clean, and how many it has.
+fn clean_of(alloc: Global, path: &str, image: &[u8]) -> Result<(usize, usize), Fault> {
+    let volume = open_image(alloc, path, image)?;
+    let stat = volume.pen.segments().sustat();
+    Ok((stat.clean, stat.segments))
+}
+
 /// Tells how many segments of an image are clean, or would be.
 fn tell_clean<W: Write>(
     alloc: Global,
@@ -141,18 +122,9 @@ fn tell_clean<W: Write>(
     are: &str,
     printer: &mut Printer<W>,
 ) -> Result<(), Fault> {
-    match open_image(alloc, path, image) {
-        Ok(pen) => {
-            let stat = pen.segments().sustat();
-            writeln!(
-                printer.out,
-                "{} of {} segments {are} clean",
-                stat.clean, stat.segments
-            )?;
-            Ok(())
-        }
-        Err(fault) => Err(fault),
-    }
+    let (clean, segments) = clean_of(alloc, path, image)?;
+    writeln!(printer.out, "{clean} of {segments} segments {are} clean")?;
+    Ok(())
 }
 
 /// The image without checkpoints, and cleaned.
@@ -174,7 +146,7 @@ fn without(
 fn tell_all<W: Write>(
     alloc: Global,
     pruning: &Pruning,
-    zone: TimeZone<'_>,
+    zone: &TimeZone<'_>,
     what: &str,
     printer: &mut Printer<W>,
 ) -> Result<(), Fault> {
@@ -185,47 +157,127 @@ fn tell_all<W: Write>(
     Ok(())
 }
 
-/// Tells what `prune` would do: it is done, but nothing is saved.
-fn try_prune<W: Write>(
-    rt: &HostRuntime,
-    path: &str,
-    rules: &Rules,
-    clock: Clock<'_>,
+/// What `prune` is asked.
+#[derive(Clone, Copy)]
+struct Asked<'a> {
+    /// Where the image stands.
+    path: &'a str,
+    rules: Rules,
+    clock: &'a Clock<'a>,
     moment: u64,
-    printer: &mut Printer<W>,
-) -> Result<Outcome, Fault> {
-    let alloc = rt.alloc();
-    let image = read_image(rt, path)?;
-    let pruning = Pruning::of_image(rt, path, image.as_slice(), rules, clock)?;
-    tell_all(alloc, &pruning, clock.zone, "would be removed", printer)?;
-    if !pruning.going.is_empty() {
-        let next = without(
-            alloc,
-            path,
-            image.as_slice(),
-            pruning.going.as_slice(),
-            moment,
-        )?;
-        tell_clean(alloc, path, next.as_slice(), "would be", printer)?;
-    }
-    Ok(Outcome::Done)
 }
 
-/// What is told of checkpoints that were removed, and of the image without them.
-fn told_of(
-    alloc: Global,
-    path: &str,
-    pruning: &Pruning,
-    zone: TimeZone<'_>,
-    image: &[u8],
-) -> Result<Vec<u8>, Fault> {
-    let mut printer = Printer {
-        out: Vec::new(alloc),
-        is_terminal: false,
-    };
-    tell_all(alloc, pruning, zone, "removed", &mut printer)?;
-    tell_clean(alloc, path, image, "are", &mut printer)?;
-    Ok(printer.out)
+impl<'a> Asked<'a> {
+    fn said(
+        rt: &HostRuntime,
+        matches: &ArgMatches<'a>,
+        clock: &'a Clock<'a>,
+    ) -> Result<Asked<'a>, Fault> {
+        Ok(Asked {
+            path: word(matches, "IMAGE"),
+            rules: rules_said(rt.alloc(), matches)?,
+            clock,
+            moment: moment(rt, matches, clock.now)?,
+        })
+    }
+
+    fn pruning(&self, rt: &HostRuntime, image: &[u8]) -> Result<Pruning, Fault> {
+        let view = View::of(rt, self.path, image, self.clock)?;
+        let going = unkept(rt.alloc(), &self.rules, &view, &self.clock.zone)?;
+        let rows = view.rows;
+        Ok(Pruning { rows, going })
+    }
+
+    /// The image without the checkpoints that go, and cleaned.
+    fn next(&self, alloc: Global, image: &[u8], pruning: &Pruning) -> Result<Vec<u8>, Fault> {
+        without(
+            alloc,
+            self.path,
+            image,
+            pruning.going.as_slice(),
+            self.moment,
+        )
+    }
+
+    /// Tells what pruning an image would do: it is done, but nothing is saved.
+    fn rehearse_on<W: Write>(
+        &self,
+        alloc: Global,
+        image: &[u8],
+        pruning: &Pruning,
+        printer: &mut Printer<W>,
+    ) -> Result<(), Fault> {
+        tell_all(
+            alloc,
+            pruning,
+            &self.clock.zone,
+            "would be removed",
+            printer,
+        )?;
+        if pruning.going.is_empty() {
+            return Ok(());
+        }
+        let next = self.next(alloc, image, pruning)?;
+        tell_clean(alloc, self.path, next.as_slice(), "would be", printer)
+    }
+
+    fn rehearse<W: Write>(
+        &self,
+        rt: &HostRuntime,
+        printer: &mut Printer<W>,
+    ) -> Result<Outcome, Fault> {
+        let image = read_image(rt, self.path)?;
+        let pruning = self.pruning(rt, image.as_slice())?;
+        self.rehearse_on(rt.alloc(), image.as_slice(), &pruning, printer)?;
+        Ok(Outcome::Done)
+    }
+
+    /// What is told of checkpoints that were removed, and of the image without them.
+    fn told_of(&self, alloc: Global, pruning: &Pruning, image: &[u8]) -> Result<Vec<u8>, Fault> {
+        let mut printer = Printer {
+            out: Vec::new(alloc),
+            is_terminal: false,
+        };
+        tell_all(alloc, pruning, &self.clock.zone, "removed", &mut printer)?;
+        tell_clean(alloc, self.path, image, "are", &mut printer)?;
+        Ok(printer.out)
+    }
+
+    fn prune_image<W: Write>(
+        &self,
+        rt: &HostRuntime,
+        image: &[u8],
+        pruning: &Pruning,
+        place: &mut SavePlace<'_>,
+        printer: &mut Printer<W>,
+    ) -> Result<Outcome, Fault> {
+        if pruning.going.is_empty() {
+            writeln!(printer.out, "0 checkpoints removed")?;
+            return Ok(Outcome::Done);
+        }
+        let next = self.next(rt.alloc(), image, pruning)?;
+        // All that is told takes its memory before the image is saved.
+        let told = self.told_of(rt.alloc(), pruning, next.as_slice())?;
+        save_told(
+            rt,
+            self.path,
+            place,
+            next.as_slice(),
+            told.as_slice(),
+            printer,
+        )
+    }
+
+    fn prune<W: Write>(
+        &self,
+        rt: &HostRuntime,
+        place: &mut SavePlace<'_>,
+        printer: &mut Printer<W>,
+    ) -> Result<Outcome, Fault> {
+        let image = read_image(rt, self.path)?;
+        let pruning = self.pruning(rt, image.as_slice())?;
+        self.prune_image(rt, image.as_slice(), &pruning, place, printer)
+    }
 }
 
 /// Removes the checkpoints that no rule keeps, cleans the volume, and saves the image. Where all are kept,
@@ -233,34 +285,13 @@ fn told_of(
 pub fn prune<W: Write>(
     rt: &HostRuntime,
     matches: &ArgMatches<'_>,
-    clock: Clock<'_>,
+    clock: &Clock<'_>,
     printer: &mut Printer<W>,
 ) -> Result<Outcome, Fault> {
-    let alloc = rt.alloc();
-    let path = word(matches, "IMAGE");
-    let rules = rules_said(alloc, matches)?;
-    let moment = moment(rt, matches, clock.now)?;
+    let asked = Asked::said(rt, matches, clock)?;
     if matches.get_flag("dry-run") {
-        return try_prune(rt, path, &rules, clock, moment, printer);
+        return asked.rehearse(rt, printer);
     }
-    let mut place = take_place(rt, path)?;
-    let image = read_image(rt, path)?;
-    let pruning = Pruning::of_image(rt, path, image.as_slice(), &rules, clock)?;
-    let mut saved = Outcome::Done;
-    if !pruning.going.is_empty() {
-        let next = without(
-            alloc,
-            path,
-            image.as_slice(),
-            pruning.going.as_slice(),
-            moment,
-        )?;
-        // All that is told takes its memory before the image is saved.
-        let told = told_of(alloc, path, &pruning, clock.zone, next.as_slice())?;
-        saved = save_image(rt, path, &mut place, next.as_slice())?;
-        printer.out.write_all(told.as_slice())?;
-    } else {
-        writeln!(printer.out, "0 checkpoints removed")?;
-    }
-    Ok(saved)
+    let mut place = take_place(rt, asked.path)?;
+    asked.prune(rt, &mut place, printer)
 }

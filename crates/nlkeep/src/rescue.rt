@@ -2,15 +2,15 @@
 use crate::asking::{Outcome, word};
 use crate::faults::{Fault, fault_at, system_fault, volume_fault};
 use crate::images::read_image;
-use crate::printing::{Printer, tell_left_out, tell_paths_left_out, tell_refused};
-use crate::restore::put_all;
+use crate::printing::{Printer, tell_paths_left_out, tell_refused};
+use crate::restore::put_told;
 use clap::ArgMatches;
 use nl_damage::{ImagePages, Ruin, Sections};
 use nl_folders::Path;
 use nl_host::Reason;
 use nl_layout::CheckpointEntry;
 use nl_manifests::{LineFault, Opened, open};
-use nl_types::{CheckpointNumber, Items, VolError};
+use nl_types::{CheckpointNumber, Items, Object, VolError};
 use std::alloc::{AllocError, Global};
 use std::fs;
 use std::io::Write;
@@ -52,6 +52,13 @@ fn refused_below(
     Ok(below)
 }
 
+fn make_new_folder(rt: &HostRuntime, folder: &str) -> Result<(), Fault> {
+    match fs::create_dir(rt, folder) {
+        Ok(()) => Ok(()),
+        Err(error) => Err(system_fault(rt.alloc(), folder, "cannot be made", &error)),
+    }
+}
+
 /// An image from which checkpoints are rescued.
 #[derive(Clone, Copy)]
 struct Rescuing<'a> {
@@ -61,69 +68,87 @@ struct Rescuing<'a> {
 }
 
 impl Rescuing<'_> {
-    /// What a checkpoint shows, as far as it can be read. None where its root can't be. What is lost is told, and
-    /// whether something is.
-    fn opened(self, entry: &CheckpointEntry) -> Result<Option<(Opened, bool)>, VolError> {
+    /// Tells what of a checkpoint is lost. Answers whether nothing is.
+    fn tell_lost(&self, number: CheckpointNumber, lost: Vec<Path>) -> Result<bool, AllocError> {
+        let lost = lost_below(self.rt.alloc(), number, lost)?;
+        tell_paths_left_out(self.rt, lost.as_slice());
+        Ok(lost.is_empty())
+    }
+
+    /// What the tree of a checkpoint shows.
+    fn shown(
+        &self,
+        number: CheckpointNumber,
+        tree: &[(Path, Object)],
+    ) -> Result<Opened, AllocError> {
         let alloc = self.rt.alloc();
+        let Opened { tree, refused } = open(alloc, tree)?;
+        let refused = refused_below(alloc, number, refused.into_vec())?;
+        let refused = Items::from_vec(refused);
+        Ok(Opened { tree, refused })
+    }
+
+    /// What a checkpoint shows, as far as it can be read. None where its root can't be. What is lost is told, and
+    /// whether nothing is.
+    fn opened(&self, entry: &CheckpointEntry) -> Result<Option<(Opened, bool)>, VolError> {
         let Some(root) = entry.root.root() else {
             return Ok(None);
         };
-        let ruin = Ruin::read(alloc, self.pages, root)?;
-        if ruin.tree.is_empty() {
+        let Ruin { tree, lost, .. } = Ruin::read(self.rt.alloc(), self.pages, root)?;
+        if tree.is_empty() {
             return Ok(None);
         }
-        let lost = lost_below(alloc, entry.number, ruin.lost)?;
-        tell_paths_left_out(self.rt, lost.as_slice());
-        let Opened { tree, refused } = open(alloc, ruin.tree.as_slice())?;
-        let refused = refused_below(alloc, entry.number, refused.into_vec())?;
-        let refused = Items::from_vec(refused);
-        Ok(Some((Opened { tree, refused }, lost.is_empty())))
+        let is_whole = self.tell_lost(entry.number, lost)?;
+        let opened = self.shown(entry.number, tree.as_slice())?;
+        Ok(Some((opened, is_whole)))
     }
 
     /// Lays a tree out in a new folder of a checkpoint. Answers whether all of it is there.
-    fn lay_out(self, number: CheckpointNumber, opened: &Opened) -> Result<bool, Fault> {
+    fn lay_out(&self, number: CheckpointNumber, opened: &Opened) -> Result<bool, Fault> {
         let alloc = self.rt.alloc();
         let folder = format!(in alloc; "{}/{}", self.folder, number.get())?;
-        let folder = folder.as_str();
-        if let Err(error) = fs::create_dir(self.rt, folder) {
-            return Err(system_fault(alloc, folder, "cannot be made", &error));
-        }
-        match put_all(self.rt, folder, opened.tree.as_slice(), false) {
-            Ok(left_out) => {
-                tell_left_out(self.rt, left_out.as_slice());
-                let is_told_whole = tell_refused(self.rt, opened.refused.as_slice(), &[]);
-                Ok(is_told_whole && left_out.is_empty())
-            }
-            Err(error) => Err(system_fault(alloc, folder, "cannot be written", &error)),
-        }
+        make_new_folder(self.rt, folder.as_str())?;
+        let is_there = put_told(self.rt, folder.as_str(), opened.tree.as_slice(), false)?;
+        let is_told_whole = tell_refused(self.rt, opened.refused.as_slice(), &[]);
+        Ok(is_told_whole && is_there)
     }
 
-    /// Rescues a checkpoint. Answers whether all of it is there.
-    fn checkpoint<W: Write>(
-        self,
-        image: &str,
-        entry: &CheckpointEntry,
+    /// Lays out what a checkpoint shows. Answers whether all of it is there.
+    fn put<W: Write>(
+        &self,
+        number: CheckpointNumber,
+        opened: &Opened,
+        is_whole: bool,
         printer: &mut Printer<W>,
     ) -> Result<bool, Fault> {
-        let number = entry.number.get();
-        let opened = match self.opened(entry) {
-            Ok(opened) => opened,
-            Err(error) => return Err(volume_fault(self.rt.alloc(), image, error)),
-        };
-        let Some((opened, is_whole)) = opened else {
-            let _ = eprintln!(self.rt; "nlkeep: left out: /{number}: cannot be read");
-            return Ok(false);
-        };
-        let is_there = self.lay_out(entry.number, &opened)?;
-        let paths = opened.tree.len();
+        let is_there = self.lay_out(number, opened)?;
+        let (number, paths) = (number.get(), opened.tree.len());
         let ending = if is_whole { "" } else { ", and not all" };
         writeln!(printer.out, "checkpoint {number}: {paths} paths{ending}")?;
         Ok(is_whole && is_there)
     }
 
+    /// Rescues a checkpoint. Answers whether all of it is there.
+    fn checkpoint<W: Write>(
+        &self,
+        image: &str,
+        entry: &CheckpointEntry,
+        printer: &mut Printer<W>,
+    ) -> Result<bool, Fault> {
+        match self.opened(entry) {
+            Ok(Some((opened, is_whole))) => self.put(entry.number, &opened, is_whole, printer),
+            Ok(None) => {
+                let number = entry.number.get();
+                let _ = eprintln!(self.rt; "nlkeep: left out: /{number}: cannot be read");
+                Ok(false)
+            }
+            Err(error) => Err(volume_fault(self.rt.alloc(), image, error)),
+        }
+    }
+
     /// Rescues each checkpoint of an image whose entry can be read. Answers whether all of all of them is there.
     fn all<W: Write>(
-        self,
+        &self,
         image: &str,
         sections: &Sections<'_>,
         printer: &mut Printer<W>,
@@ -144,31 +169,46 @@ impl Rescuing<'_> {
     }
 }
 
+/// Lays out what can be read of each checkpoint of an image. Answers whether all of all of them is there.
+fn rescue_pages<W: Write>(
+    rt: &HostRuntime,
+    matches: &ArgMatches<'_>,
+    sections: &Sections<'_>,
+    pages: &ImagePages,
+    printer: &mut Printer<W>,
+) -> Result<bool, Fault> {
+    let folder = word(matches, "FOLDER");
+    make_new_folder(rt, folder)?;
+    let rescuing = Rescuing { rt, pages, folder };
+    rescuing.all(word(matches, "IMAGE"), sections, printer)
+}
+
+/// The same of these bytes, and what of them is missing is told.
+fn rescue_image<W: Write>(
+    rt: &HostRuntime,
+    matches: &ArgMatches<'_>,
+    image: &[u8],
+    printer: &mut Printer<W>,
+) -> Result<Outcome, Fault> {
+    let path = word(matches, "IMAGE");
+    let Some(sections) = Sections::mended(image) else {
+        return Err(fault_at(rt.alloc(), path, "has no superblock that can be read"));
+    };
+    let pages = ImagePages::of(rt.alloc(), &sections)?;
+    let is_whole = rescue_pages(rt, matches, &sections, &pages, printer)?;
+    let missing = sections.places.end.saturating_sub(image.len());
+    if missing > 0 {
+        let _ = eprintln!(rt; "nlkeep: left out: {path}: the last {missing} bytes are not there");
+    }
+    Ok(Outcome::of(is_whole && missing == 0))
+}
+
 /// Lays out what can be read of each checkpoint of an image, in a new folder that has one for each.
 pub fn rescue<W: Write>(
     rt: &HostRuntime,
     matches: &ArgMatches<'_>,
     printer: &mut Printer<W>,
 ) -> Result<Outcome, Fault> {
-    let alloc = rt.alloc();
-    let (path, folder) = (word(matches, "IMAGE"), word(matches, "FOLDER"));
-    let image = read_image(rt, path)?;
-    let Some(sections) = Sections::mended(image.as_slice()) else {
-        return Err(fault_at(alloc, path, "has no superblock that can be read"));
-    };
-    let pages = ImagePages::of(alloc, &sections)?;
-    if let Err(error) = fs::create_dir(rt, folder) {
-        return Err(system_fault(alloc, folder, "cannot be made", &error));
-    }
-    let rescuing = Rescuing {
-        rt,
-        pages: &pages,
-        folder,
-    };
-    let is_whole = rescuing.all(path, &sections, printer)?;
-    let missing = sections.places.end.saturating_sub(image.len());
-    if missing > 0 {
-        let _ = eprintln!(rt; "nlkeep: left out: {path}: the last {missing} bytes are not there");
-    }
-    Ok(Outcome::of(is_whole && missing == 0))
+    let image = read_image(rt, word(matches, "IMAGE"))?;
+    rescue_image(rt, matches, image.as_slice(), printer)
 }

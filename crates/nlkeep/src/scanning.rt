@@ -1,11 +1,11 @@
 //! The folder of the host that is kept.
-use crate::faults::{Fault, fault_at, system_fault, volume_fault};
+use crate::faults::{Fault, fault_at, system_fault, told, volume_fault};
 use crate::parts::path_said;
 use crate::progress::{Progress, Reading};
-use crate::sums::sum_path;
-use nl_folders::{FolderError, Path as TreePath, Tree, begins_with};
+use crate::unpacking::{TOO_MANY, sealed};
+use nl_folders::{FolderError, Name, Path as TreePath, Tree, begins_with};
 use nl_host::{HostFolder, LeftOut, Pattern, Reason, Selection, TooBig, read_folder};
-use nl_manifests::{HostEntry, HostObject, HostTree, SealError, seal};
+use nl_manifests::{HostObject, HostTree};
 use nl_pins::is_of_pins;
 use nl_types::limits::VOLUME_BLOCK_LIMIT;
 use nl_types::{BLOCK_SIZE, Items, VolError};
@@ -26,9 +26,8 @@ pub struct Source<'a> {
     pub is_plain: bool,
 }
 
-/// What is said of a folder of too many paths.
-const TOO_MANY: &str =
-    "has more files and folders than a volume takes, a manifest of each folder counted";
+/// What is said of a folder that was other in the end than in the beginning.
+const CHANGED: &str = "changed while it was read";
 
 /// What was found in a folder.
 #[derive(Drop)]
@@ -68,29 +67,12 @@ fn too_many_text(alloc: Global, folder: &str, bytes: u64) -> Result<String, Allo
     )
 }
 
-fn told(text: Result<String, AllocError>) -> Fault {
-    match text {
-        Ok(text) => Fault::Told(text),
-        Err(_) => Fault::Memory,
-    }
-}
-
 fn scan_fault(alloc: Global, path: &str, error: FolderError) -> Fault {
     match error {
         FolderError::Refused(VolError::TooBig) => fault_at(alloc, path, TOO_MANY),
         FolderError::Refused(error) => volume_fault(alloc, path, error),
         FolderError::Unread => fault_at(alloc, path, "cannot be read"),
-        FolderError::Disordered => fault_at(alloc, path, "changed while it was read"),
-    }
-}
-
-/// The tree of a volume that shows what was read of a folder.
-fn sealed(alloc: Global, folder: &str, host: &[(TreePath, HostEntry)]) -> Result<Tree, Fault> {
-    match seal(alloc, host) {
-        Ok(tree) => Ok(tree),
-        Err(SealError::Memory) => Err(Fault::Memory),
-        Err(SealError::Unshown) => Err(fault_at(alloc, folder, "changed while it was read")),
-        Err(SealError::TooBig) => Err(fault_at(alloc, folder, TOO_MANY)),
+        FolderError::Disordered => fault_at(alloc, path, CHANGED),
     }
 }
 
@@ -98,7 +80,7 @@ fn sealed(alloc: Global, folder: &str, host: &[(TreePath, HostEntry)]) -> Result
 fn path_of_sum(
     alloc: Global,
     folder: &str,
-    selection: Selection<'_>,
+    selection: &Selection<'_>,
 ) -> Result<Option<TreePath>, AllocError> {
     let Some(rest) = selection.image_folder.strip_prefix(folder) else {
         return Ok(None);
@@ -106,59 +88,128 @@ fn path_of_sum(
     if !rest.is_empty() && !rest.starts_with('/') && folder != "/" {
         return Ok(None);
     }
-    let name = sum_path(alloc, selection.image_name)?;
-    let mut path = path_said(alloc, rest)?;
-    path.push(Items::from_slice(alloc, name.as_bytes())?)?;
-    Ok(Some(path))
+    let name = selection.image_name;
+    let text = format!(in alloc; "{rest}/{name}.sum")?;
+    Ok(Some(path_said(alloc, text.as_str())?))
+}
+
+/// Notes that something with a path of the host is left out.
+fn note(
+    left_out: &mut Vec<LeftOut>,
+    path: Result<String, AllocError>,
+    reason: Reason,
+) -> Result<(), AllocError> {
+    left_out.push(LeftOut {
+        path: path?,
+        reason,
+    })?;
+    Ok(())
+}
+
+/// What was read of a folder without files at and below a path, and how many those are.
+fn without_files(
+    alloc: Global,
+    tree: HostTree,
+    top: &[Name],
+) -> Result<(HostTree, usize), AllocError> {
+    let mut kept = Items::new(alloc);
+    let mut count: usize = 0;
+    for (path, entry) in tree.into_vec() {
+        let is_file = matches!(entry.object, HostObject::File(_));
+        if is_file && begins_with(path.as_slice(), top) {
+            count = count.saturating_add(1);
+        } else {
+            kept.push((path, entry))?;
+        }
+    }
+    Ok((kept, count))
 }
 
 /// Leaves the file of the image's sum out of what was read of a folder.
 fn without_sum(
     alloc: Global,
     folder: &str,
-    selection: Selection<'_>,
+    selection: &Selection<'_>,
     tree: HostTree,
     left_out: &mut Vec<LeftOut>,
 ) -> Result<HostTree, AllocError> {
     let Some(sum) = path_of_sum(alloc, folder, selection)? else {
         return Ok(tree);
     };
-    let mut kept = Items::new(alloc);
-    for (path, entry) in tree.into_vec() {
-        let is_file = matches!(entry.object, HostObject::File(_));
-        if is_file && begins_with(path.as_slice(), sum.as_slice()) {
-            let (folder, name) = (selection.image_folder, selection.image_name);
-            left_out.push(LeftOut {
-                path: format!(in alloc; "{folder}/{name}.sum")?,
-                reason: Reason::Image,
-            })?;
-        } else {
-            kept.push((path, entry))?;
-        }
+    let (kept, count) = without_files(alloc, tree, sum.as_slice())?;
+    let (folder, name) = (selection.image_folder, selection.image_name);
+    for _ in 0..count {
+        note(
+            left_out,
+            format!(in alloc; "{folder}/{name}.sum"),
+            Reason::Image,
+        )?;
     }
     Ok(kept)
 }
 
-/// What was read of a folder without what has the name of the file of pins, which is left out.
+/// What was read of a folder without what has the name of the file of pins, and how often that stands in the
+/// folder itself.
+fn without_pins(alloc: Global, tree: HostTree) -> Result<(HostTree, usize), AllocError> {
+    let mut rest = Items::new(alloc);
+    let mut count: usize = 0;
+    for (path, entry) in tree.into_vec() {
+        if !is_of_pins(path.as_slice()) {
+            rest.push((path, entry))?;
+        } else if path.len() == 1 {
+            count = count.saturating_add(1);
+        }
+    }
+    Ok((rest, count))
+}
+
+/// Leaves what has the name of the file of pins out of what was read of a folder.
 fn without_reserved(
     alloc: Global,
     folder: &str,
     tree: HostTree,
     left_out: &mut Vec<LeftOut>,
 ) -> Result<HostTree, AllocError> {
-    let mut rest = Items::new(alloc);
-    for (path, entry) in tree.into_vec() {
-        if !is_of_pins(path.as_slice()) {
-            rest.push((path, entry))?;
-        } else if path.len() == 1 {
-            let path = format!(in alloc; "{}/.nlkeep-pins", folder.trim_end_matches('/'))?;
-            left_out.push(LeftOut {
-                path,
-                reason: Reason::Reserved,
-            })?;
-        }
+    let (rest, count) = without_pins(alloc, tree)?;
+    let folder = folder.trim_end_matches('/');
+    for _ in 0..count {
+        note(
+            left_out,
+            format!(in alloc; "{folder}/.nlkeep-pins"),
+            Reason::Reserved,
+        )?;
     }
     Ok(rest)
+}
+
+/// Sees to it that a volume takes the files of a folder.
+fn judge_files(
+    alloc: Global,
+    folder: &str,
+    host: &HostFolder<'_, HostRuntime>,
+) -> Result<(), Fault> {
+    if !host.too_big.is_empty() {
+        return Err(told(too_big_text(alloc, host.too_big.as_slice())));
+    }
+    if host.bytes > MOST_BYTES {
+        return Err(told(too_many_text(alloc, folder, host.bytes)));
+    }
+    Ok(())
+}
+
+/// What is to be kept of what was read of a folder, and what is left out.
+fn scan_of(
+    alloc: Global,
+    folder: &str,
+    selection: &Selection<'_>,
+    tree: HostTree,
+    left_out: Vec<LeftOut>,
+) -> Result<Scan, Fault> {
+    let mut left_out = left_out;
+    let tree = without_sum(alloc, folder, selection, tree, &mut left_out)?;
+    let tree = without_reserved(alloc, folder, tree, &mut left_out)?;
+    let tree = sealed(alloc, folder, tree.as_slice(), CHANGED)?;
+    Ok(Scan { tree, left_out })
 }
 
 /// All that is to be kept of a folder, and what is left out.
@@ -168,27 +219,16 @@ fn without_reserved(
 fn scan_below(
     rt: &HostRuntime,
     folder: &str,
-    selection: Selection<'_>,
+    selection: &Selection<'_>,
     is_plain: bool,
     progress: &mut Progress<'_>,
 ) -> Result<Scan, Fault> {
     let alloc = rt.alloc();
-    let mut host = HostFolder::new(rt, folder, selection, is_plain);
+    let mut host = HostFolder::new(rt, folder, *selection, is_plain);
     let read = read_folder(alloc, &mut host, &mut Reading::new(progress));
-    if !host.too_big.is_empty() {
-        return Err(told(too_big_text(alloc, host.too_big.as_slice())));
-    }
-    if host.bytes > MOST_BYTES {
-        return Err(told(too_many_text(alloc, folder, host.bytes)));
-    }
+    judge_files(alloc, folder, &host)?;
     match read {
-        Ok(tree) => {
-            let mut left_out = host.left_out;
-            let tree = without_sum(alloc, folder, selection, tree, &mut left_out)?;
-            let tree = without_reserved(alloc, folder, tree, &mut left_out)?;
-            let tree = sealed(alloc, folder, tree.as_slice())?;
-            Ok(Scan { tree, left_out })
-        }
+        Ok(tree) => scan_of(alloc, folder, selection, tree, host.left_out),
         Err(error) => {
             let path = host.failed_at.as_ref().map_or(folder, String::as_str);
             Err(scan_fault(alloc, path, error))
@@ -218,5 +258,5 @@ pub fn scan_folder(
         image_name: image_name.as_str(),
     };
     let root = root.as_path().as_str();
-    scan_below(rt, root, selection, source.is_plain, progress)
+    scan_below(rt, root, &selection, source.is_plain, progress)
 }

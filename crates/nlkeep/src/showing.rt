@@ -1,7 +1,7 @@
 //! `show`: a page of HTML that stands alone, on the checkpoints, the segments and the folders of a volume.
 use crate::asking::{Clock, Outcome};
 use crate::checkpoints::is_minor;
-use crate::comparing::{Pair, tell_checkpoint_differences};
+use crate::comparing::Comparing;
 use crate::df::tell_segments;
 use crate::faults::Fault;
 use crate::json::object;
@@ -10,9 +10,8 @@ use crate::outline::tell_folders;
 use crate::page::{BEFORE, BEHIND};
 use crate::printing::Printer;
 use crate::views::View;
-use nl_folders::Path;
 use nl_pins::Pins;
-use nl_types::{Items, Row};
+use nl_types::Row;
 use serde::Serialize;
 use std::alloc::Global;
 use std::io::Write;
@@ -27,7 +26,7 @@ struct ImageObject<'a> {
 /// and that is never a minor one.
 fn tell_checkpoint<W: Write>(
     alloc: Global,
-    clock: Clock<'_>,
+    clock: &Clock<'_>,
     view: &View<'_>,
     row: &Row,
     pins: Option<&Pins>,
@@ -42,12 +41,14 @@ fn tell_checkpoint<W: Write>(
     let pin = pins.and_then(|pins| pins.text(row.number));
     tell_object(alloc, clock, row, pin, Some(&counted), printer)?;
     if let Some(before) = &before {
-        let pair = Pair {
+        let comparing = Comparing {
+            view,
             old: before.number,
             new: row.number,
+            top: &[],
+            is_json: true,
         };
-        let root: Path = Items::new(alloc);
-        tell_checkpoint_differences(alloc, view, pair, root.as_slice(), true, printer)?;
+        comparing.tell(alloc, printer)?;
     }
     if is_minor(row) {
         return Ok(before);
@@ -55,23 +56,33 @@ fn tell_checkpoint<W: Write>(
     Ok(Some(counted))
 }
 
-/// Writes a page of HTML on a volume, with nothing from elsewhere.
-pub fn show<W: Write>(
+/// Writes a page of HTML on a volume of which these are pinned.
+fn show_pinned<W: Write>(
     alloc: Global,
-    clock: Clock<'_>,
+    clock: &Clock<'_>,
     view: &View<'_>,
+    pins: Option<&Pins>,
     printer: &mut Printer<W>,
 ) -> Result<Outcome, Fault> {
-    let pins = view.pins(alloc)?;
     printer.out.write_all(BEFORE.as_bytes())?;
     object(alloc, &ImageObject { image: view.path }, printer)?;
     let mut before = None;
     for row in view.rows.as_slice() {
-        before = tell_checkpoint(alloc, clock, view, row, pins.as_ref(), before, printer)?;
+        before = tell_checkpoint(alloc, clock, view, row, pins, before, printer)?;
     }
-    let pen = &view.volume.pen;
-    tell_segments(alloc, view.path, pen, printer)?;
-    tell_folders(alloc, view, pen.latest(), printer)?;
+    tell_segments(alloc, view.path, view.pen(), printer)?;
+    tell_folders(alloc, view, view.pen().latest(), printer)?;
     printer.out.write_all(BEHIND.as_bytes())?;
     Ok(Outcome::Done)
+}
+
+/// Writes a page of HTML on a volume, with nothing from elsewhere.
+pub fn show<W: Write>(
+    alloc: Global,
+    clock: &Clock<'_>,
+    view: &View<'_>,
+    printer: &mut Printer<W>,
+) -> Result<Outcome, Fault> {
+    let pins = view.pins(alloc)?;
+    show_pinned(alloc, clock, view, pins.as_ref(), printer)
 }

@@ -1,7 +1,7 @@
 //! Sizes of volumes, as a person says them.
 use nl_types::limits::{FEWEST_SEGMENTS, SEGMENT_LIMIT};
 use nl_types::{BLOCK_SIZE, decimal};
-use std::alloc::{AllocError, Global};
+use std::fmt;
 
 /// How many blocks each segment has. A volume of such segments can have any size up to the greatest.
 pub const BLOCKS: u32 = 64;
@@ -26,12 +26,18 @@ fn bytes_said(word: &str) -> Option<u64> {
     decimal(digits)?.checked_mul(unit)
 }
 
-/// A size in bytes, as a person says it.
-pub fn size_shown(alloc: Global, bytes: u64) -> Result<String, AllocError> {
-    if bytes % 1_048_576 == 0 {
-        format!(in alloc; "{}M", bytes / 1_048_576)
-    } else {
-        format!(in alloc; "{}K", bytes / 1024)
+/// A size in bytes, told as a person says it.
+#[derive(Clone, Copy)]
+pub struct Size(pub u64);
+
+impl fmt::Display for Size {
+    fn fmt<W: fmt::Write>(&self, f: &mut fmt::Formatter<W>) -> fmt::Result {
+        let Size(bytes) = *self;
+        if bytes % 1_048_576 == 0 {
+            write!(f, "{}M", bytes / 1_048_576)
+        } else {
+            write!(f, "{}K", bytes / 1024)
+        }
     }
 }
 

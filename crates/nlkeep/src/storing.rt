@@ -1,20 +1,21 @@
 //! A tree that becomes the current one of an image, and is kept as the next snapshot.
-use crate::asking::{Clock, Outcome};
+use crate::asking::{Clock, Outcome, moment, most, word};
 use crate::comparing::tell_differences;
 use crate::faults::{Fault, fault_at, volume_fault};
-use crate::images::{device_for, open_image, read_image, save_image};
+use crate::images::{device_for, read_image, save_told};
 use crate::printing::Printer;
-use crate::sizes::size_shown;
-use crate::views::{View, pins_file};
-use nl_device::MemDevice;
+use crate::progress::Progress;
+use crate::sizes::Size;
+use crate::views::View;
+use clap::ArgMatches;
 use nl_folders::{Path, Tree};
 use nl_keep::{KeepError, Stored};
-use nl_keep_pen::{Effort, PenVolume, Room, backup_image};
+use nl_keep_pen::{Effort, Room, backup_image};
 use nl_pins::with_pins;
 use nl_saving::SavePlace;
-use nl_types::{Items, Object, VolError};
+use nl_types::{Object, VolError};
 use std::alloc::Global;
-use std::io::Write;
+use std::io::{self, Write};
 
 /// What is to be stored, when, and in how great a volume.
 #[derive(Drop)]
@@ -53,16 +54,14 @@ fn keep_fault(alloc: Global, image: &str, error: KeepError) -> Fault {
 
 /// Tells that the volume has become greater, where it has.
 pub fn tell_growth<W: Write>(
-    alloc: Global,
     grown: Option<(u64, u64)>,
     printer: &mut Printer<W>,
-) -> Result<(), Fault> {
+) -> io::Result<()> {
     let Some((old, new)) = grown else {
         return Ok(());
     };
-    let (old, new) = (size_shown(alloc, old)?, size_shown(alloc, new)?);
-    writeln!(printer.out, "the volume has grown from {old} to {new}")?;
-    Ok(())
+    let (old, new) = (Size(old), Size(new));
+    writeln!(printer.out, "the volume has grown from {old} to {new}")
 }
 
 /// Tells what changed, and the snapshot's number.
@@ -94,7 +93,7 @@ fn told_of(
         out: Vec::new(alloc),
         is_terminal,
     };
-    tell_growth(alloc, stores.grown, &mut printer)?;
+    tell_growth(stores.grown, &mut printer)?;
     tell_stored(alloc, &stores.stored, tree, &mut printer)?;
     Ok(printer.out)
 }
@@ -143,49 +142,109 @@ pub fn store_in(alloc: Global, path: &str, image: &[u8], wanted: &Wanted) -> Res
     }
 }
 
-/// The file of the pins of a volume. A late date is told.
-fn pins_of(
-    rt: &HostRuntime,
-    path: &str,
-    clock: Clock<'_>,
-    volume: &mut PenVolume<MemDevice>,
-) -> Result<Option<Items<u8>>, Fault> {
-    let view = View::of(rt, path, volume, clock)?;
-    pins_file(rt.alloc(), path, view.volume)
+/// Where a tree is to be kept, when, and in how great a volume.
+#[derive(Clone, Copy)]
+pub struct Keeping<'a> {
+    /// Where the image stands.
+    pub path: &'a str,
+    pub moment: u64,
+    /// The most bytes.
+    pub most: u64,
 }
 
-/// The same of the volume of an image.
-fn pins_of_image(
+/// A tree that is to be kept beside the pins of a volume.
+#[derive(Drop)]
+pub struct Gathered {
+    pub tree: Tree,
+    /// Whether nothing was left out of it.
+    pub is_whole: bool,
+}
+
+/// Stores a tree in the volume of an image, and saves that. What was done is told once the image is there.
+fn store<W: Write>(
     rt: &HostRuntime,
     path: &str,
-    clock: Clock<'_>,
     image: &[u8],
-) -> Result<Option<Items<u8>>, Fault> {
-    match open_image(rt.alloc(), path, image) {
-        Ok(pen) => pins_of(rt, path, clock, &mut PenVolume { pen }),
-        Err(fault) => Err(fault),
-    }
-}
-
-/// Stores a tree that has no pins, beside those of the volume, and saves the image. What was done is told once
-/// the image is there. Answers whether its sum was left out.
-pub fn keep<W: Write>(
-    rt: &HostRuntime,
-    path: &str,
-    clock: Clock<'_>,
-    wanted: Wanted,
+    wanted: &Wanted,
     place: &mut SavePlace<'_>,
     printer: &mut Printer<W>,
 ) -> Result<Outcome, Fault> {
     let alloc = rt.alloc();
-    let image = read_image(rt, path)?;
-    let pins = pins_of_image(rt, path, clock, image.as_slice())?;
-    let Wanted { tree, moment, most } = wanted;
-    let tree = with_pins(alloc, pins, tree)?;
-    let wanted = Wanted { tree, moment, most };
-    let stores = store_in(alloc, path, image.as_slice(), &wanted)?;
+    let stores = store_in(alloc, path, image, wanted)?;
     let told = told_of(alloc, &stores, wanted.tree.as_slice(), printer.is_terminal)?;
-    let saved = save_image(rt, path, place, stores.image.as_slice())?;
-    printer.out.write_all(told.as_slice())?;
-    Ok(saved)
+    save_told(
+        rt,
+        path,
+        place,
+        stores.image.as_slice(),
+        told.as_slice(),
+        printer,
+    )
+}
+
+impl<'a> Keeping<'a> {
+    pub fn said(
+        rt: &HostRuntime,
+        matches: &ArgMatches<'a>,
+        clock: &Clock<'_>,
+    ) -> Result<Keeping<'a>, Fault> {
+        Ok(Keeping {
+            path: word(matches, "IMAGE"),
+            moment: moment(rt, matches, clock.now)?,
+            most: most(rt, matches)?,
+        })
+    }
+
+    pub fn wanted(&self, tree: Tree) -> Wanted {
+        Wanted {
+            tree,
+            moment: self.moment,
+            most: self.most,
+        }
+    }
+
+    /// A tree that has no pins, beside those of the volume. A late date is told.
+    fn beside_pins(
+        &self,
+        rt: &HostRuntime,
+        clock: &Clock<'_>,
+        image: &[u8],
+        tree: Tree,
+    ) -> Result<Wanted, Fault> {
+        let alloc = rt.alloc();
+        let pins = View::of(rt, self.path, image, clock)?.pins_file(alloc)?;
+        Ok(self.wanted(with_pins(alloc, pins, tree)?))
+    }
+
+    /// Stores a tree that has no pins, beside those of the volume, and saves the image. Answers whether its sum
+    /// was left out.
+    fn keep<W: Write>(
+        &self,
+        rt: &HostRuntime,
+        clock: &Clock<'_>,
+        tree: Tree,
+        place: &mut SavePlace<'_>,
+        printer: &mut Printer<W>,
+    ) -> Result<Outcome, Fault> {
+        let image = read_image(rt, self.path)?;
+        let wanted = self.beside_pins(rt, clock, image.as_slice(), tree)?;
+        store(rt, self.path, image.as_slice(), &wanted, place, printer)
+    }
+
+    /// The same of a tree of which something may be left out, with what is told of the work.
+    pub fn keep_gathered<W: Write>(
+        &self,
+        rt: &HostRuntime,
+        clock: &Clock<'_>,
+        gathered: Gathered,
+        progress: &mut Progress<'_>,
+        place: &mut SavePlace<'_>,
+        printer: &mut Printer<W>,
+    ) -> Result<Outcome, Fault> {
+        let Gathered { tree, is_whole } = gathered;
+        progress.tell("storing");
+        let kept = self.keep(rt, clock, tree, place, printer);
+        progress.end();
+        Ok(kept?.and(Outcome::of(is_whole)))
+    }
 }

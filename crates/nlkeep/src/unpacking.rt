@@ -1,5 +1,5 @@
 //! What is kept of the tree of an archive.
-use crate::faults::{Fault, fault_at};
+use crate::faults::{Fault, fault_at, told};
 use crate::printing::path_text;
 use nl_folders::{Name, Path, Tree, begins_with, copied};
 use nl_host::Reason;
@@ -13,6 +13,10 @@ use std::{io, str};
 
 /// What is said of what comes from standard input.
 pub const INPUT: &str = "standard input";
+
+/// What is said of a tree of too many paths.
+pub const TOO_MANY: &str =
+    "has more files and folders than a volume takes, a manifest of each folder counted";
 
 /// The most bytes that a volume has.
 const MOST_BYTES: u64 = VOLUME_BLOCK_LIMIT as u64 * BLOCK_SIZE as u64;
@@ -152,12 +156,9 @@ fn great_file_fault(alloc: Global, path: &[Name], bytes: u64) -> Fault {
 }
 
 fn too_much_fault(alloc: Global, bytes: u64) -> Fault {
-    match format!(in alloc;
+    told(format!(in alloc;
         "{INPUT}: has {bytes} bytes in files, and no volume has more than {MOST_BYTES}"
-    ) {
-        Ok(text) => Fault::Told(text),
-        Err(_) => Fault::Memory,
-    }
+    ))
 }
 
 /// Sees to it that a volume takes the files.
@@ -189,12 +190,14 @@ pub fn sealed(
         Ok(tree) => Ok(tree),
         Err(SealError::Memory) => Err(Fault::Memory),
         Err(SealError::Unshown) => Err(fault_at(alloc, path, unshown)),
-        Err(SealError::TooBig) => Err(fault_at(
-            alloc,
-            path,
-            "has more files and folders than a volume takes, a manifest of each folder counted",
-        )),
+        Err(SealError::TooBig) => Err(fault_at(alloc, path, TOO_MANY)),
     }
+}
+
+/// The same of what an archive has, where a volume takes it.
+fn judged(alloc: Global, tree: &[(Path, HostEntry)]) -> Result<Tree, Fault> {
+    judge_sizes(alloc, tree)?;
+    sealed(alloc, INPUT, tree, "has a tree that no volume shows")
 }
 
 /// What is kept of an archive: all but devices and pipes, the name of manifests, paths above 4,095 bytes and
@@ -206,13 +209,7 @@ pub fn kept_of(alloc: Global, unpacked: Unpacked) -> Result<Kept, Fault> {
     let mut left_out = Items::new(alloc);
     let tree = kept_entries(alloc, unpacked.tree, &mut left_out)?;
     note_special(alloc, unpacked.left_out.as_slice(), &mut left_out)?;
-    judge_sizes(alloc, tree.as_slice())?;
-    let tree = sealed(
-        alloc,
-        INPUT,
-        tree.as_slice(),
-        "has a tree that no volume shows",
-    )?;
+    let tree = judged(alloc, tree.as_slice())?;
     Ok(Kept { tree, left_out })
 }
 
@@ -236,10 +233,7 @@ fn text_of(fault: ArchiveFault) -> &'static str {
 /// What is said of an archive that is refused.
 fn refusal_fault(alloc: Global, refusal: Refusal) -> Fault {
     let (offset, text) = (refusal.offset, text_of(refusal.fault));
-    match format!(in alloc; "{INPUT}: byte {offset}: {text}") {
-        Ok(text) => Fault::Told(text),
-        Err(_) => Fault::Memory,
-    }
+    told(format!(in alloc; "{INPUT}: byte {offset}: {text}"))
 }
 
 /// Why there is no tree of what standard input gives.

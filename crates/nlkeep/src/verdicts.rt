@@ -6,7 +6,6 @@ use crate::printing::Printer;
 use crate::sums::{Summed, kept_in};
 use nl_damage::sums::Comparison;
 use nl_damage::{Culprit, Finding, Place, path_of};
-use nl_types::CheckpointNumber;
 use serde::Serialize;
 use std::alloc::{AllocError, Global};
 use std::io::Write;
@@ -102,76 +101,52 @@ fn sum_word(summed: &Summed) -> &'static str {
     }
 }
 
-fn inode_in(culprit: &Culprit) -> Option<u64> {
+fn tree_object(checkpoint: u64, culprit: Option<Culprit>) -> PlaceObject {
+    let mut object = NOWHERE;
+    object.checkpoint = Some(checkpoint);
     match culprit {
-        Culprit::Inode(number) => Some(number.get()),
-        Culprit::Number(_) => None,
+        Some(Culprit::Inode(number)) => object.inode = Some(number.get()),
+        Some(Culprit::Number(number)) => object.number = Some(number.get()),
+        None => {}
     }
-}
-
-fn number_in(culprit: &Culprit) -> Option<u64> {
-    match culprit {
-        Culprit::Inode(_) => None,
-        Culprit::Number(number) => Some(number.get()),
-    }
-}
-
-fn tree_object(checkpoint: u64, culprit: &Option<Culprit>) -> PlaceObject {
-    let whole = PlaceObject {
-        checkpoint: Some(checkpoint),
-        ..NOWHERE
-    };
-    match culprit {
-        Some(culprit) => PlaceObject {
-            inode: inode_in(culprit),
-            number: number_in(culprit),
-            ..whole
-        },
-        None => whole,
-    }
+    object
 }
 
 fn place_object(place: &Place) -> PlaceObject {
+    let mut object = NOWHERE;
     match place {
-        Place::Length { bytes, parts } => PlaceObject {
-            bytes: Some(*bytes),
-            due: Some(*parts),
-            ..NOWHERE
-        },
-        Place::Superblock(byte) | Place::Padding(byte) => PlaceObject {
-            byte: Some(*byte),
-            ..NOWHERE
-        },
-        Place::Segment { byte, segment } => PlaceObject {
-            byte: Some(*byte),
-            segment: Some(*segment),
-            ..NOWHERE
-        },
-        Place::Number { byte, number } => PlaceObject {
-            byte: Some(*byte),
-            number: Some(*number),
-            ..NOWHERE
-        },
-        Place::Entry { byte, place } => PlaceObject {
-            byte: Some(*byte),
-            entry: Some(*place),
-            ..NOWHERE
-        },
+        Place::Length { bytes, parts } => {
+            object.bytes = Some(*bytes);
+            object.due = Some(*parts);
+        }
+        Place::Superblock(byte) | Place::Padding(byte) => object.byte = Some(*byte),
+        Place::Segment { byte, segment } => {
+            object.byte = Some(*byte);
+            object.segment = Some(*segment);
+        }
+        Place::Number { byte, number } => {
+            object.byte = Some(*byte);
+            object.number = Some(*number);
+        }
+        Place::Entry { byte, place } => {
+            object.byte = Some(*byte);
+            object.entry = Some(*place);
+        }
         Place::Block {
             byte,
             segment,
             block,
-        } => PlaceObject {
-            byte: Some(*byte),
-            segment: Some(*segment),
-            block: Some(*block),
-            ..NOWHERE
-        },
+        } => {
+            object.byte = Some(*byte);
+            object.segment = Some(*segment);
+            object.block = Some(*block);
+        }
         Place::Tree {
             checkpoint,
             culprit,
-        } => tree_object(checkpoint.get(), culprit),
+        } => object = tree_object(checkpoint.get(), *culprit),
     }
+    object
 }
 
 fn finding_word(finding: &Finding) -> &'static str {
@@ -207,7 +182,7 @@ fn finding_path(
 fn condition_object(
     alloc: Global,
     image: &[u8],
-    judgement: Judgement,
+    judgement: &Judgement,
 ) -> Result<ConditionObject, AllocError> {
     Ok(ConditionObject {
         condition: judgement.number,
@@ -218,7 +193,7 @@ fn condition_object(
     })
 }
 
-fn segment_object(told: Told<'_>, segment: u64) -> SegmentObject {
+fn segment_object(told: &Told<'_>, segment: u64) -> SegmentObject {
     let place = told.place(segment);
     SegmentObject {
         segment,
@@ -227,26 +202,27 @@ fn segment_object(told: Told<'_>, segment: u64) -> SegmentObject {
     }
 }
 
+/// Tells a condition, and what is found of it.
+fn tell_condition<W: Write>(
+    alloc: Global,
+    told: &Told<'_>,
+    judgement: &Judgement,
+    printer: &mut Printer<W>,
+) -> Result<(), Fault> {
+    let told = condition_object(alloc, told.image, judgement)?;
+    object(alloc, &told, printer)
+}
+
 /// Tells the first condition that fails, and the later ones that are told.
 fn tell_conditions<W: Write>(
     alloc: Global,
-    told: Told<'_>,
+    told: &Told<'_>,
     first: u8,
     printer: &mut Printer<W>,
 ) -> Result<(), Fault> {
-    let judgement = told.first(alloc, first)?;
-    object(
-        alloc,
-        &condition_object(alloc, told.image, judgement)?,
-        printer,
-    )?;
+    tell_condition(alloc, told, &told.first(alloc, first)?, printer)?;
     for place in 0..told.later(first) {
-        let judgement = told.judgement(alloc, first, place)?;
-        object(
-            alloc,
-            &condition_object(alloc, told.image, judgement)?,
-            printer,
-        )?;
+        tell_condition(alloc, told, &told.judgement(alloc, first, place)?, printer)?;
     }
     Ok(())
 }
@@ -255,7 +231,7 @@ fn tell_conditions<W: Write>(
 /// segment that differs from the sum.
 pub fn tell_objects<W: Write>(
     alloc: Global,
-    told: Told<'_>,
+    told: &Told<'_>,
     printer: &mut Printer<W>,
 ) -> Result<(), Fault> {
     let kept = kept_in(told.image);

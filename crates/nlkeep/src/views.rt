@@ -1,17 +1,20 @@
 //! The volume of an image that is looked at, and its trees.
+use crate::amounts::size_at;
 use crate::asking::Clock;
 use crate::checkpoints::{meant, rows};
 use crate::faults::{Fault, fault_at, tree_fault, volume_fault};
+use crate::images::{open_image, read_image};
 use crate::moments::shown;
 use crate::parts::path_said;
 use crate::printing::Seen;
+use nl_core::Pen;
 use nl_device::MemDevice;
-use nl_folders::{Folder, FolderError, Name, Path, Tree, copied, find_in, spelled};
-use nl_keep::{CheckpointFolder, Volume, checkpoint_tree};
+use nl_folders::{Folder, FolderError, Name, Path, Tree, copied, find_in};
+use nl_keep::{CheckpointFolder, checkpoint_tree};
 use nl_keep_pen::{PenVolume, is_manifest_path, unread_tree};
 use nl_manifests::{HostEntry, HostObject, HostTree, Opened, open};
 use nl_pins::{Pins, is_of_pins, path_of_pins, without_pins};
-use nl_types::{Answer, Ask, CheckpointNumber, Items, Object, Reply, Row, Stat, VolError};
+use nl_types::{CheckpointNumber, Items, Object, Row, VolError};
 use std::alloc::{AllocError, Global};
 
 /// The volume of an image.
@@ -19,7 +22,7 @@ use std::alloc::{AllocError, Global};
 pub struct View<'a> {
     /// Where the image stands.
     pub path: &'a str,
-    pub volume: &'a PenVolume<MemDevice>,
+    volume: Box<PenVolume<MemDevice>>,
     /// What is told of its checkpoints, of the minor ones too.
     pub rows: Items<Row>,
 }
@@ -32,28 +35,51 @@ pub fn latest_stamp(rows: &[Row]) -> u64 {
     }
 }
 
-/// Tells a person that the latest checkpoint is later than the clock.
-pub fn tell_late(rt: &HostRuntime, path: &str, clock: Clock<'_>, latest: u64) -> Result<(), Fault> {
-    if latest > clock.now {
-        let date = shown(rt.alloc(), clock.zone, latest)?;
-        let _ = eprintln!(rt;
-            "nlkeep: {path}: the latest checkpoint is of {date}, which the clock has not reached"
-        );
-    }
-    Ok(())
-}
-
 impl<'a> View<'a> {
-    /// What is to be seen of a volume. A late date is told.
+    /// What is to be seen of the volume of an image. `path` is where that stands.
+    fn silent(alloc: Global, path: &'a str, image: &[u8]) -> Result<View<'a>, Fault> {
+        let mut volume = open_image(alloc, path, image)?;
+        let rows = rows(alloc, path, &mut volume.pen)?;
+        Ok(View { path, volume, rows })
+    }
+
+    /// The same of the image at a path.
+    pub fn at(rt: &HostRuntime, path: &'a str) -> Result<View<'a>, Fault> {
+        let image = read_image(rt, path)?;
+        View::silent(rt.alloc(), path, image.as_slice())
+    }
+
+    /// What is to be seen of the volume of an image. A late date is told.
     pub fn of(
         rt: &HostRuntime,
         path: &'a str,
-        volume: &'a mut PenVolume<MemDevice>,
-        clock: Clock<'_>,
+        image: &[u8],
+        clock: &Clock<'_>,
     ) -> Result<View<'a>, Fault> {
-        let rows = rows(rt.alloc(), path, &mut volume.pen)?;
-        tell_late(rt, path, clock, latest_stamp(rows.as_slice()))?;
-        Ok(View { path, volume, rows })
+        let view = View::silent(rt.alloc(), path, image)?;
+        view.tell_late(rt, clock)?;
+        Ok(view)
+    }
+
+    /// Tells a person that the latest checkpoint is later than the clock, where it is.
+    pub fn tell_late(&self, rt: &HostRuntime, clock: &Clock<'_>) -> Result<(), Fault> {
+        let latest = latest_stamp(self.rows.as_slice());
+        if latest > clock.now {
+            let date = shown(rt.alloc(), &clock.zone, latest)?;
+            let _ = eprintln!(rt;
+                "nlkeep: {}: the latest checkpoint is of {date}, which the clock has not reached",
+                self.path
+            );
+        }
+        Ok(())
+    }
+
+    pub fn volume(&self) -> &PenVolume<MemDevice> {
+        self.volume.as_ref()
+    }
+
+    pub fn pen(&self) -> &Pen<MemDevice> {
+        &self.volume().pen
     }
 
     /// The kept checkpoint that a word means.
@@ -61,10 +87,10 @@ impl<'a> View<'a> {
         &self,
         alloc: Global,
         word: &str,
-        clock: Clock<'_>,
+        clock: &Clock<'_>,
     ) -> Result<CheckpointNumber, Fault> {
-        let number = meant(alloc, word, self.rows.as_slice(), clock.now, clock.zone)?;
-        match self.volume.pen.cpinfo(number) {
+        let number = meant(alloc, word, self.rows.as_slice(), clock)?;
+        match self.pen().cpinfo(number) {
             Ok(_) => Ok(number),
             Err(_) => Err(fault_at(alloc, word, "no such checkpoint is kept")),
         }
@@ -72,15 +98,27 @@ impl<'a> View<'a> {
 
     /// The tree of a kept checkpoint, without its pins.
     pub fn tree_of(&self, alloc: Global, number: CheckpointNumber) -> Result<Tree, Fault> {
-        match checkpoint_tree(alloc, self.volume, number) {
+        match checkpoint_tree(alloc, self.volume(), number) {
             Ok(tree) => Ok(without_pins(alloc, tree)?),
+            Err(error) => Err(tree_fault(alloc, self.path, error)),
+        }
+    }
+
+    /// The bytes of the file that has the pins of the volume, none where there is no such file. Pins are read of
+    /// the current tree alone.
+    pub fn pins_file(&self, alloc: Global) -> Result<Option<Items<u8>>, Fault> {
+        let path = path_of_pins(alloc)?;
+        let mut folder = self.folder_of(self.pen().latest());
+        match folder.read(alloc, path.as_slice()) {
+            Ok(bytes) => Ok(Some(bytes)),
+            Err(FolderError::Refused(VolError::NotFound | VolError::IsDir)) => Ok(None),
             Err(error) => Err(tree_fault(alloc, self.path, error)),
         }
     }
 
     /// What is pinned. None where the file of pins is none.
     pub fn pins(&self, alloc: Global) -> Result<Option<Pins>, Fault> {
-        match pins_file(alloc, self.path, self.volume)? {
+        match self.pins_file(alloc)? {
             Some(bytes) => Ok(Pins::read(alloc, bytes.as_slice())?),
             None => Ok(Some(Pins::none(alloc))),
         }
@@ -99,7 +137,7 @@ impl<'a> View<'a> {
     }
 
     /// What the checkpoint shows that a word means.
-    pub fn opened(&self, alloc: Global, word: &str, clock: Clock<'_>) -> Result<Opened, Fault> {
+    pub fn opened(&self, alloc: Global, word: &str, clock: &Clock<'_>) -> Result<Opened, Fault> {
         let number = self.number(alloc, word, clock)?;
         let tree = self.tree_of(alloc, number)?;
         Ok(open(alloc, tree.as_slice())?)
@@ -107,17 +145,22 @@ impl<'a> View<'a> {
 
     fn folder_of(&self, number: CheckpointNumber) -> CheckpointFolder<'_, PenVolume<MemDevice>> {
         CheckpointFolder {
-            volume: self.volume,
+            volume: self.volume(),
             number,
         }
     }
 
     /// What a kept checkpoint shows, but for the bytes of files: of these, manifests alone are read.
     pub fn shown(&self, alloc: Global, number: CheckpointNumber) -> Result<Opened, Fault> {
-        match unread_tree(alloc, self.volume, number) {
+        match unread_tree(alloc, self.volume(), number) {
             Ok(tree) => Ok(open(alloc, without_pins(alloc, tree)?.as_slice())?),
             Err(error) => Err(tree_fault(alloc, self.path, error)),
         }
+    }
+
+    /// The same without the lines of manifests that show nothing.
+    pub fn shown_tree(&self, alloc: Global, number: CheckpointNumber) -> Result<HostTree, Fault> {
+        Ok(self.shown(alloc, number)?.tree)
     }
 
     /// The bytes of the file at the path that a word says, of a kept checkpoint.
@@ -142,9 +185,8 @@ impl<'a> View<'a> {
 
     /// How many bytes the file at a path of a kept checkpoint has.
     fn size(&self, alloc: Global, number: CheckpointNumber, path: &[Name]) -> Result<u64, Fault> {
-        let path = spelled(alloc, path)?;
-        match size_told(self.volume.read_at(number, &Ask::Stat { path })) {
-            Ok(size) => Ok(size),
+        match size_at(alloc, self.volume(), number, path) {
+            Ok(size) => Ok(size.unwrap_or(0)),
             Err(error) => Err(volume_fault(alloc, self.path, error)),
         }
     }
@@ -180,16 +222,7 @@ impl<'a> View<'a> {
 
     /// The tree of the latest checkpoint of all, without its pins.
     pub fn present_tree(&self, alloc: Global) -> Result<Tree, Fault> {
-        self.tree_of(alloc, self.volume.pen.latest())
-    }
-}
-
-/// How many bytes a `stat` tells of.
-fn size_told(reply: Reply) -> Result<u64, VolError> {
-    match reply {
-        Ok(Answer::Stat(Stat::File(size))) => Ok(size),
-        Ok(_) => Ok(0),
-        Err(error) => Err(error),
+        self.tree_of(alloc, self.pen().latest())
     }
 }
 
@@ -201,21 +234,14 @@ fn is_of_no_entry(error: VolError) -> bool {
     )
 }
 
-/// The bytes of the file that has the pins of a volume, none where there is no such file. Pins are read of the
-/// current tree alone.
-pub fn pins_file(
-    alloc: Global,
-    path: &str,
-    volume: &PenVolume<MemDevice>,
-) -> Result<Option<Items<u8>>, Fault> {
-    let mut folder = CheckpointFolder {
-        volume,
-        number: volume.pen.latest(),
-    };
-    match folder.read(alloc, path_of_pins(alloc)?.as_slice()) {
-        Ok(bytes) => Ok(Some(bytes)),
-        Err(FolderError::Refused(VolError::NotFound | VolError::IsDir)) => Ok(None),
-        Err(error) => Err(tree_fault(alloc, path, error)),
+/// What a tree has at a path, but for the bytes of a file that is no manifest.
+fn object_alone(alloc: Global, path: &[Name], object: &Object) -> Result<Object, AllocError> {
+    match object {
+        Object::Dir => Ok(Object::Dir),
+        Object::File(bytes) if is_manifest_path(path) => {
+            Ok(Object::File(Items::from_slice(alloc, bytes.as_slice())?))
+        }
+        Object::File(_) => Ok(Object::File(Items::new(alloc))),
     }
 }
 
@@ -223,17 +249,10 @@ pub fn pins_file(
 pub fn shown_alone(alloc: Global, tree: &[(Path, Object)]) -> Result<HostTree, AllocError> {
     let mut alone = Items::new(alloc);
     for (path, object) in tree {
-        if is_of_pins(path.as_slice()) {
-            continue;
+        let path = path.as_slice();
+        if !is_of_pins(path) {
+            alone.push((copied(alloc, path)?, object_alone(alloc, path, object)?))?;
         }
-        let object = match object {
-            Object::Dir => Object::Dir,
-            Object::File(bytes) if is_manifest_path(path.as_slice()) => {
-                Object::File(Items::from_slice(alloc, bytes.as_slice())?)
-            }
-            Object::File(_) => Object::File(Items::new(alloc)),
-        };
-        alone.push((copied(alloc, path.as_slice())?, object))?;
     }
     Ok(open(alloc, alone.as_slice())?.tree)
 }
