@@ -17,6 +17,7 @@ use nl_types::{CheckpointNumber, Event, Items, Mode, Row, VolError, without_answ
 use std::alloc::{AllocError, Global};
 use std::fs;
 use std::io::{ErrorKind, Write};
+use std::mem::replace;
 
 /// What stands in the image that checkpoints come into.
 #[derive(Drop)]
@@ -109,15 +110,19 @@ struct Copied {
 }
 
 impl Copied {
-    /// Notes that a checkpoint came into it.
-    fn note(&mut self, row: &Row, stores: Stores) -> Result<(), AllocError> {
-        let Stores { stored, image, .. } = stores;
-        self.image = image;
+    /// Notes that a checkpoint came into it, which made it this image and is to have this mode.
+    fn note(
+        &mut self,
+        number: CheckpointNumber,
+        mode: Mode,
+        image: Vec<u8>,
+    ) -> Result<(), AllocError> {
+        drop(replace(&mut self.image, image));
         self.count = self.count.saturating_add(1);
-        if matches!(row.mode, Mode::Plain) {
-            self.plain.push(stored.number)?;
+        match mode {
+            Mode::Plain => self.plain.push(number),
+            Mode::Snapshot => Ok(()),
         }
-        Ok(())
     }
 }
 
@@ -170,8 +175,13 @@ impl Copying<'_> {
         copied: &mut Copied,
     ) -> Result<(), Fault> {
         let wanted = self.wanted(alloc, row, target)?;
-        let stores = store_in(alloc, self.path, copied.image.as_slice(), &wanted)?;
-        copied.note(row, stores)?;
+        let Stores { stored, image, .. } = store_in(
+            alloc,
+            self.path,
+            copied.image.as_slice(),
+            &wanted,
+        )?;
+        copied.note(stored.number, row.mode, image)?;
         Ok(())
     }
 
