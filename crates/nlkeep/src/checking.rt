@@ -110,7 +110,7 @@ pub struct Told<'a> {
     /// The first condition that fails. None of a sound image.
     pub failing: Option<u8>,
     /// What is judged of the later ones, where that is asked.
-    pub judged: Option<&'a Judged>,
+    pub judged: Option<Judged>,
 }
 
 impl Told<'_> {
@@ -323,39 +323,26 @@ fn judged_of(
     }
 }
 
-/// Judges an image beside the sum at a path, and tells what is found.
-fn check_image<W: Write>(
-    rt: &HostRuntime,
-    matches: &ArgMatches<'_>,
-    image: &[u8],
-    sum_path: &str,
-    printer: &mut Printer<W>,
-) -> Result<Outcome, Fault> {
-    let alloc = rt.alloc();
-    let path = word(matches, "IMAGE");
-    let failing = failing_of(alloc, path, image)?;
-    let summed = beside_sum(rt, sum_path, image)?;
-    let judged = judged_of(alloc, image, failing, matches.get_flag("all"))?;
-    let told = Told {
-        path,
-        image,
-        sum_path,
-        summed: &summed,
-        failing,
-        judged: judged.as_ref(),
-    };
-    told.tell_by(alloc, matches.get_flag("json"), printer)?;
-    Ok(with_sum_told(rt, &told, told.outcome()))
-}
-
 /// Judges an image, reads its sum, and tells what is found.
 pub fn check<W: Write>(
     rt: &HostRuntime,
     matches: &ArgMatches<'_>,
     printer: &mut Printer<W>,
 ) -> Result<Outcome, Fault> {
+    let alloc = rt.alloc();
     let path = word(matches, "IMAGE");
     let image = read_image(rt, path)?;
-    let sum_path = sum_path(rt.alloc(), path)?;
-    check_image(rt, matches, image.as_slice(), sum_path.as_str(), printer)
+    let sum_path = sum_path(alloc, path)?;
+    let failing = failing_of(alloc, path, image.as_slice())?;
+    let is_all = matches.get_flag("all");
+    let told = Told {
+        path,
+        image: image.as_slice(),
+        sum_path: sum_path.as_str(),
+        summed: &beside_sum(rt, sum_path.as_str(), image.as_slice())?,
+        failing,
+        judged: judged_of(alloc, image.as_slice(), failing, is_all)?,
+    };
+    told.tell_by(alloc, matches.get_flag("json"), printer)?;
+    Ok(with_sum_told(rt, &told, told.outcome()))
 }

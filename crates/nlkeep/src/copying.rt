@@ -120,7 +120,7 @@ impl Copied {
         drop(replace(&mut self.image, image));
         self.count = self.count.saturating_add(1);
         match mode {
-            Mode::Plain => self.plain.push(number),
+            Mode::Plain => Ok(self.plain.push(number)?),
             Mode::Snapshot => Ok(()),
         }
     }

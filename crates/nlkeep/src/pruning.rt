@@ -163,7 +163,6 @@ struct Asked<'a> {
     /// Where the image stands.
     path: &'a str,
     rules: Rules,
-    clock: &'a Clock<'a>,
     moment: u64,
 }
 
@@ -171,19 +170,18 @@ impl<'a> Asked<'a> {
     fn said(
         rt: &HostRuntime,
         matches: &ArgMatches<'a>,
-        clock: &'a Clock<'a>,
+        clock: &Clock<'_>,
     ) -> Result<Asked<'a>, Fault> {
         Ok(Asked {
             path: word(matches, "IMAGE"),
             rules: rules_said(rt.alloc(), matches)?,
-            clock,
             moment: moment(rt, matches, clock.now)?,
         })
     }
 
-    fn pruning(&self, rt: &HostRuntime, image: &[u8]) -> Result<Pruning, Fault> {
-        let view = View::of(rt, self.path, image, self.clock)?;
-        let going = unkept(rt.alloc(), &self.rules, &view, &self.clock.zone)?;
+    fn pruning(&self, rt: &HostRuntime, image: &[u8], clock: &Clock<'_>) -> Result<Pruning, Fault> {
+        let view = View::of(rt, self.path, image, clock)?;
+        let going = unkept(rt.alloc(), &self.rules, &view, &clock.zone)?;
         let rows = view.rows;
         Ok(Pruning { rows, going })
     }
@@ -205,15 +203,10 @@ impl<'a> Asked<'a> {
         alloc: Global,
         image: &[u8],
         pruning: &Pruning,
+        zone: &TimeZone<'_>,
         printer: &mut Printer<W>,
     ) -> Result<(), Fault> {
-        tell_all(
-            alloc,
-            pruning,
-            &self.clock.zone,
-            "would be removed",
-            printer,
-        )?;
+        tell_all(alloc, pruning, zone, "would be removed", printer)?;
         if pruning.going.is_empty() {
             return Ok(());
         }
@@ -224,21 +217,29 @@ impl<'a> Asked<'a> {
     fn rehearse<W: Write>(
         &self,
         rt: &HostRuntime,
+        clock: &Clock<'_>,
         printer: &mut Printer<W>,
     ) -> Result<Outcome, Fault> {
         let image = read_image(rt, self.path)?;
-        let pruning = self.pruning(rt, image.as_slice())?;
-        self.rehearse_on(rt.alloc(), image.as_slice(), &pruning, printer)?;
+        let image = image.as_slice();
+        let pruning = self.pruning(rt, image, clock)?;
+        self.rehearse_on(rt.alloc(), image, &pruning, &clock.zone, printer)?;
         Ok(Outcome::Done)
     }
 
     /// What is told of checkpoints that were removed, and of the image without them.
-    fn told_of(&self, alloc: Global, pruning: &Pruning, image: &[u8]) -> Result<Vec<u8>, Fault> {
+    fn told_of(
+        &self,
+        alloc: Global,
+        pruning: &Pruning,
+        image: &[u8],
+        zone: &TimeZone<'_>,
+    ) -> Result<Vec<u8>, Fault> {
         let mut printer = Printer {
             out: Vec::new(alloc),
             is_terminal: false,
         };
-        tell_all(alloc, pruning, &self.clock.zone, "removed", &mut printer)?;
+        tell_all(alloc, pruning, zone, "removed", &mut printer)?;
         tell_clean(alloc, self.path, image, "are", &mut printer)?;
         Ok(printer.out)
     }
@@ -248,6 +249,7 @@ impl<'a> Asked<'a> {
         rt: &HostRuntime,
         image: &[u8],
         pruning: &Pruning,
+        zone: &TimeZone<'_>,
         place: &mut SavePlace<'_>,
         printer: &mut Printer<W>,
     ) -> Result<Outcome, Fault> {
@@ -257,7 +259,7 @@ impl<'a> Asked<'a> {
         }
         let next = self.next(rt.alloc(), image, pruning)?;
         // All that is told takes its memory before the image is saved.
-        let told = self.told_of(rt.alloc(), pruning, next.as_slice())?;
+        let told = self.told_of(rt.alloc(), pruning, next.as_slice(), zone)?;
         save_told(
             rt,
             self.path,
@@ -271,12 +273,14 @@ impl<'a> Asked<'a> {
     fn prune<W: Write>(
         &self,
         rt: &HostRuntime,
+        clock: &Clock<'_>,
         place: &mut SavePlace<'_>,
         printer: &mut Printer<W>,
     ) -> Result<Outcome, Fault> {
         let image = read_image(rt, self.path)?;
-        let pruning = self.pruning(rt, image.as_slice())?;
-        self.prune_image(rt, image.as_slice(), &pruning, place, printer)
+        let image = image.as_slice();
+        let pruning = self.pruning(rt, image, clock)?;
+        self.prune_image(rt, image, &pruning, &clock.zone, place, printer)
     }
 }
 
@@ -290,8 +294,8 @@ pub fn prune<W: Write>(
 ) -> Result<Outcome, Fault> {
     let asked = Asked::said(rt, matches, clock)?;
     if matches.get_flag("dry-run") {
-        return asked.rehearse(rt, printer);
+        return asked.rehearse(rt, clock, printer);
     }
     let mut place = take_place(rt, asked.path)?;
-    asked.prune(rt, &mut place, printer)
+    asked.prune(rt, clock, &mut place, printer)
 }

@@ -97,19 +97,19 @@ impl<J: Volumes, R: Wait> Ported<'_, J, R> {
         ask_port(alloc, &mut self.port, mount, ask)
     }
 
-    /// Applies an event that nothing else needs.
-    pub(crate) fn apply_once(&self, event: Event) -> Reply {
-        let reply = self.shared.apply(self.rt, &event);
-        drop(event);
-        reply
-    }
-
     /// Applies an event that mounts nothing and gives no mount back.
     fn change(&self, event: &Event) -> Reply {
         if is_mount_event(event) {
             return Err(VolError::BadMount);
         }
         self.shared.apply(self.rt, event)
+    }
+
+    /// The same of an event that nothing else needs.
+    pub(crate) fn apply_once(&self, event: Event) -> Reply {
+        let reply = self.change(&event);
+        drop(event);
+        reply
     }
 
     fn warm(&mut self, words: &[&str]) -> Result<usize, VolError> {

@@ -83,13 +83,12 @@ fn plain_go<J: Volumes, R: Wait>(rt: &R, volume: &Volume<J>) -> bool {
     removed.is_ok() && is_alone(&volume.listing(rt, &all()), number(4))
 }
 
-/// Does an event, and says whether the port is told of what it published.
-fn is_told<J: Volumes, R: Wait>(
-    rt: &R,
-    volume: &Volume<J>,
-    port: &mut Port<J>,
-    event: Event,
-) -> bool {
+/// Makes a snapshot, and says whether the port is told of it.
+fn is_told<J: Volumes, R: Wait>(rt: &R, volume: &Volume<J>, port: &mut Port<J>) -> bool {
+    let event = Event::Checkpoint {
+        mode: Mode::Snapshot,
+        moment: 9,
+    };
     let told = volume.apply_told(rt, port, &event);
     let is_told = told.is_told;
     drop((event, told));
@@ -102,11 +101,7 @@ fn mount_told<J: Volumes, R: Wait>(
     volume: &Volume<J>,
     port: &mut Port<J>,
 ) -> Result<Mount<J>, VolError> {
-    let event = Event::Checkpoint {
-        mode: Mode::Snapshot,
-        moment: 9,
-    };
-    if is_told(rt, volume, port, event) {
+    if is_told(rt, volume, port) {
         volume.mount(rt, port, number(5))
     } else {
         Err(VolError::Memory)
