@@ -101,13 +101,26 @@ fn sum_word(summed: &Summed) -> &'static str {
     }
 }
 
-fn tree_object(checkpoint: u64, culprit: Option<Culprit>) -> PlaceObject {
+fn inode_in(culprit: &Culprit) -> Option<u64> {
+    match culprit {
+        Culprit::Inode(number) => Some(number.get()),
+        Culprit::Number(_) => None,
+    }
+}
+
+fn number_in(culprit: &Culprit) -> Option<u64> {
+    match culprit {
+        Culprit::Inode(_) => None,
+        Culprit::Number(number) => Some(number.get()),
+    }
+}
+
+fn tree_object(checkpoint: u64, culprit: &Option<Culprit>) -> PlaceObject {
     let mut object = NOWHERE;
     object.checkpoint = Some(checkpoint);
-    match culprit {
-        Some(Culprit::Inode(number)) => object.inode = Some(number.get()),
-        Some(Culprit::Number(number)) => object.number = Some(number.get()),
-        None => {}
+    if let Some(culprit) = culprit {
+        object.inode = inode_in(culprit);
+        object.number = number_in(culprit);
     }
     object
 }
@@ -144,7 +157,7 @@ fn place_object(place: &Place) -> PlaceObject {
         Place::Tree {
             checkpoint,
             culprit,
-        } => object = tree_object(checkpoint.get(), *culprit),
+        } => object = tree_object(checkpoint.get(), culprit),
     }
     object
 }
