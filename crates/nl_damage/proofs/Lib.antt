@@ -6,3 +6,4 @@ pub mod OwnLogs
 pub mod SumLoops
 pub mod SumsAgain
 pub mod SumsRead
+pub mod SoundCheckpoints

@@ -1,5 +1,5 @@
 -- What was printed is read again.
-use Rattle.std.proofs.Common.{◌≡◌, ℕ, zero, suc, ◌+◌, ◌-◌, ◌*◌, ◌/◌, ◌%◌, ◌^◌, ◌<◌, ◌≤◌, Bool, true, false, cond, eqb, ltb, leb, List, [], ◌∷◌, ◌++◌, All, codes, drop, length, take, Option, Some, None, refl, sym, ap, ◌∙◌, append_assoc, append-nil, length-append, arith}
+use Rattle.std.proofs.Common.{◌≡◌, ℕ, ◌+◌, ◌-◌, ◌*◌, ◌/◌, ◌%◌, ◌^◌, ◌<◌, ◌≤◌, true, false, eqb, ltb, leb, List, [], ◌∷◌, ◌++◌, All, codes, drop, length, take, Some, refl, sym, ap, ◌∙◌, append_assoc, length-append, arith}
 use Rattle.std.proofs.lemmas.Bool.{eq-eqb, le-leb, le-ltb, lt-ltb}
 use Rattle.std.proofs.lemmas.List.Elements.{All-head, All-tail}
 use Rattle.std.proofs.lemmas.Fmt.{decimal_by_steps}
@@ -10,7 +10,7 @@ use Rattle.nl_damage.specs.declared.sums.digests.Digest.{Digest}
 use Rattle.nl_damage.specs.declared.sums.sum.Save.{Save}
 use Rattle.nl_damage.specs.declared.sums.sum.Sum.{Sum}
 use Rattle.nl_damage.specs.SumTexts.{IsDigest, IsSave, IsSum, digest_text, number_text, save_text, segment_text, sum_text}
-use Rattle.nl_damage.specs.Private.SumReading.{◌>>=◌, behind, decimal_from, digest_at, digits_at, divided_at, front_at, kept_at, number_at, save_at, segments_at, sum_at}
+use Rattle.nl_damage.specs.Private.SumReading.{behind, decimal_from, digest_at, digits_at, divided_at, front_at, kept_at, number_at, save_at, segments_at, sum_at}
 
 -- ---- texts
 

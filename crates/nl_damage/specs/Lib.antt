@@ -3,6 +3,7 @@ pub mod Pages
 pub mod Judging
 pub mod Paths
 pub mod Places
+pub mod WholeTrees
 pub mod ImageSums
 pub mod SumTexts
 pub mod SumComparing

@@ -1,5 +1,6 @@
 -- The sections of the bytes of an image, which may be cut, and damaged anywhere.
 use Rattle.std.specs.Prelude.{◌≡◌, ℕ, ◌*◌, ◌/◌, ◌-◌, ◌^◌, ◌≤◌, nat_lt, if◌then◌else◌, List, drop, length, take, Option, None, Some}
+use Rattle.nl_types.specs.Plain.Limits.{IsGeometry}
 use Rattle.nl_layout.specs.declared.checkpoint_entry.CheckpointEntry.{CheckpointEntry}
 use Rattle.nl_layout.specs.declared.superblock.Superblock.{Superblock}
 use Rattle.nl_layout.specs.declared.superblock.Mark.TheVariants.{Second}
@@ -61,3 +62,8 @@ mended_superblock bytes = record (superblock_at bytes) { mark = Second }
 -- a superblock tells more checkpoints than a list of bytes can have entries
 abbrev pub HasTooMany : Superblock → Type 0
 HasTooMany s = 2 ^ 56 ≤ s.checkpoints
+
+-- the counts of a first block are there, and divide a volume
+pub record CountsDivide (bytes : List ℕ) : Type 0 where
+  pub there : 24 ≤ length bytes
+  pub divide : IsGeometry (mended_superblock bytes).segments (mended_superblock bytes).blocks

@@ -4,12 +4,14 @@
 
 mod culprits;
 mod later;
+pub mod laws;
 mod leading;
 mod pages;
 mod places;
 mod ruins;
 mod searching;
 mod sections;
+mod sound;
 pub mod sums;
 mod tables;
 mod unsound;

@@ -1,16 +1,24 @@
 //! The trees of checkpoints of a damaged image, as far as their blocks can be read.
+ghost use Rattle.std.specs.Prelude.{◌≡◌, [], IfOk};
+ghost use Rattle.nl_types.specs.Plain.Trees.{Tree};
+ghost use Rattle.nl_folders.specs.Spelled.{IsNameable};
+ghost use Rattle.nl_check.specs.Judging.{told};
+ghost use Rattle.nl_damage.specs.Pages.{pages_of};
+ghost use Rattle.nl_damage.specs.WholeTrees.{HasTree, IsWhole};
+
 use crate::pages::ImagePages;
+use crate::sound::sound_tree;
 use nl_blocktree::{Met, get, walk};
 use nl_dirs::{Record, records};
 use nl_files::ReadTree;
 use nl_folders::{Name, Path, Tree, with_name};
 use nl_ifile::inode;
-use nl_layout::{Inode, InodeKind, Root};
+use nl_layout::{CheckpointEntry, Inode, InodeKind, Root};
 use nl_tree::TreeRead;
 use nl_types::limits::{
     FILE_LIMIT, INODE_LIMIT, PATH_LENGTH_LIMIT, ROOT_INODE, VOLUME_BLOCK_LIMIT,
 };
-use nl_types::{BLOCK_SIZE, InodeNumber, Items, Kind, Object, VolError, is_name};
+use nl_types::{BLOCK_SIZE, Geometry, InodeNumber, Items, Kind, Object, VolError, is_name};
 use std::alloc::{AllocError, Global};
 
 /// What a name leads to that is yet to be looked at.
@@ -21,19 +29,24 @@ struct Pending {
     kind: Kind,
 }
 
-/// The tree of a checkpoint that is being read.
+/// What can be read of a checkpoint.
 #[derive(Drop)]
-pub struct Ruin<'a> {
+pub struct Ruin {
+    pub tree: Tree,
+    /// The paths of what can't be read. Of a directory it is so where one of its names is lost.
+    pub lost: Vec<Path>,
+}
+
+/// A walk by names through a checkpoint, as far as they lead.
+#[derive(Drop)]
+struct Walk<'a> {
     alloc: Global,
     pages: &'a ImagePages,
     root: Root,
     /// Which inodes were looked at. One that comes again is left out.
     taken: Vec<bool>,
     pending: Vec<Pending>,
-    /// What was read.
-    pub tree: Tree,
-    /// The paths of what can't be read. Of a directory it is so where one of its names is lost.
-    pub lost: Vec<Path>,
+    ruin: Ruin,
 }
 
 /// How many bytes a path has that calls name it by.
@@ -75,41 +88,104 @@ pub(crate) fn records_of(
     Ok((all, is_whole))
 }
 
-impl<'a> Ruin<'a> {
-    /// The tree of the checkpoint whose file of inodes has this root. Nothing of it is read yet.
-    fn new(alloc: Global, pages: &'a ImagePages, root: Root) -> Result<Ruin<'a>, AllocError> {
+impl Ruin {
+    /// Nothing, where nothing is read yet.
+    fn new(alloc: Global) -> Ruin {
+        Ruin {
+            tree: Items::new(alloc),
+            lost: Vec::new(alloc),
+        }
+    }
+
+    /// All of a tree.
+    fn whole(alloc: Global, tree: Tree) -> Ruin
+        ensures { IsWhole tree result }
+    {
+        Ruin {
+            tree,
+            lost: Vec::new(alloc),
+        }
+    }
+
+    /// All that can be read of the checkpoint of an entry, by these pages. One that is sound is read as any kept
+    /// one is, whatever else of the image is damaged. Through another one names lead, as far as they can be read;
+    /// where its entry has no root, nothing is read and nothing lost.
+    ///
+    /// # Errors
+    /// `Memory`, or `Fault` where the pages are of more numbers than a volume of this geometry has.
+    pub fn read(
+        alloc: Global,
+        pages: &ImagePages,
+        geometry: Geometry,
+        entry: &CheckpointEntry,
+    ) -> Result<Ruin, VolError>
+        ensures whole { IfOk result (λ ruin. (tree : Tree)
+            → HasTree (pages_of pages.now) (told entry.now) tree → IsNameable tree → IsWhole tree ruin) }
+    {
+        match sound_tree(alloc, pages, geometry, entry)? {
+            Some(tree) => Ok(Ruin::whole(alloc, tree)),
+            None => Ruin::of_pieces(alloc, pages, entry),
+        }
+    }
+
+    /// What of a checkpoint names lead to.
+    fn of_pieces(
+        alloc: Global,
+        pages: &ImagePages,
+        entry: &CheckpointEntry,
+    ) -> Result<Ruin, VolError> {
+        match entry.root.root() {
+            Some(root) => Walk::through(alloc, pages, root),
+            None => Ok(Ruin::new(alloc)),
+        }
+    }
+}
+
+impl<'a> Walk<'a> {
+    /// Through the checkpoint whose file of inodes has this root. Nothing of it is read yet.
+    fn new(alloc: Global, pages: &'a ImagePages, root: Root) -> Result<Walk<'a>, AllocError> {
         let mut pending = Vec::new(alloc);
         pending.push(Pending {
             path: Items::new(alloc),
             number: InodeNumber::new(ROOT_INODE),
             kind: Kind::Directory,
         })?;
-        Ok(Ruin {
+        Ok(Walk {
             alloc,
             pages,
             root,
             taken: vec![in alloc; false; INODE_LIMIT]?,
             pending,
-            tree: Items::new(alloc),
-            lost: Vec::new(alloc),
+            ruin: Ruin::new(alloc),
         })
     }
 
     /// All that can be read of it.
-    pub fn read(alloc: Global, pages: &'a ImagePages, root: Root) -> Result<Ruin<'a>, VolError> {
-        let mut ruin = Ruin::new(alloc, pages, root)?;
-        // Each inode is looked at once.
+    fn through(alloc: Global, pages: &'a ImagePages, root: Root) -> Result<Ruin, VolError> {
+        let mut walk = Walk::new(alloc, pages, root)?;
+        // Each inode is read once.
         for _ in 0..INODE_LIMIT {
-            let Some(next) = ruin.pending.pop() else {
+            let Some(next) = walk.pending.pop() else {
                 break;
             };
-            ruin.visit(next)?;
+            walk.visit(next)?;
         }
-        Ok(ruin)
+        walk.lose_rest()?;
+        Ok(walk.ruin)
+    }
+
+    /// Loses what is left where more names than there can be inodes lead anywhere.
+    fn lose_rest(&mut self) -> Result<(), AllocError> {
+        for _ in 0..self.pending.len() {
+            if let Some(Pending { path, .. }) = self.pending.pop() {
+                self.lose(path)?;
+            }
+        }
+        Ok(())
     }
 
     fn lose(&mut self, path: Path) -> Result<(), AllocError> {
-        self.lost.push(path)?;
+        self.ruin.lost.push(path)?;
         Ok(())
     }
 
@@ -173,8 +249,8 @@ impl<'a> Ruin<'a> {
         let mut bytes = vec![in self.alloc; 0; inode.size as usize]?;
         let tree = ReadTree::new(self.pages, self.root);
         tree.read_bytes(number, 0, bytes.as_mut_slice());
-        self.tree
-            .push((path, Object::File(Items::from_vec(bytes))))?;
+        let object = Object::File(Items::from_vec(bytes));
+        self.ruin.tree.push((path, object))?;
         Ok(())
     }
 
@@ -185,7 +261,7 @@ impl<'a> Ruin<'a> {
             let copy = nl_folders::copied(self.alloc, path.as_slice())?;
             self.lose(copy)?;
         }
-        self.tree.push((path, Object::Dir))?;
+        self.ruin.tree.push((path, Object::Dir))?;
         Ok(())
     }
 

@@ -6,7 +6,7 @@ ghost use Rattle.nl_layout.specs.declared.checkpoint_entry.CheckpointEntry as en
 ghost use Rattle.nl_image.specs.Conditions.{IsShapeOf, MeetsFirst};
 ghost use Rattle.nl_image.specs.Parts.{Parts};
 ghost use Rattle.nl_damage.specs.Pages.{entry_in};
-ghost use Rattle.nl_damage.specs.Sections.{ArePlaces, AreSections, AreWhole, HasTooMany, IsEntryAt, item_in, last_place, mended_superblock};
+ghost use Rattle.nl_damage.specs.Sections.{ArePlaces, AreSections, AreWhole, CountsDivide, HasTooMany, IsEntryAt, item_in, last_place, mended_superblock};
 
 use byteorder::{ByteOrder, LittleEndian};
 use nl_image::geometry_of;
@@ -170,10 +170,11 @@ impl<'a> Sections<'a> {
     }
 
     /// The sections by the counts of a superblock that may be damaged elsewhere. None where these divide no
-    /// volume.
+    /// volume, or some of their bytes are missing.
     pub fn mended(image: &'a [u8]) -> Option<Sections<'a>>
         ensures sections { IfSome result (AreSections image.now) }
         ensures counts { IfSome result (λ x. x.superblock ≡ mended_superblock image.now) }
+        ensures none { IfNone result (CountsDivide image.now → HasTooMany (mended_superblock image.now)) }
     {
         Sections::divided(image, mended(image)?)
     }

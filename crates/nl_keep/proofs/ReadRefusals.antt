@@ -14,7 +14,7 @@ use Rattle.nl_types.specs.declared.reply.Named.{Named}
 use Rattle.nl_types.specs.declared.reply.Object.TheVariants.{Dir, File}
 use Rattle.nl_types.specs.Plain.Paths.{Path, is_name}
 use Rattle.nl_types.specs.Plain.Trees.{Tree, IsTree, children, lookup}
-use Rattle.nl_types.specs.Plain.Calls.{and_then, dir_at, file_at, list, named, read, reply_to}
+use Rattle.nl_types.specs.Plain.Calls.{IsReadReply, and_then, dir_at, file_at, list, named, read, reply_to}
 use Rattle.nl_types.specs.Facts.Judgements.{dir_at_is, file_at_is}
 use Rattle.nl_types.specs.Plain.Runs.{Writes}
 use Rattle.nl_types.specs.Plain.Worlds.{Copy, Outcome, Reply}
@@ -66,6 +66,13 @@ question_refused path e named (inr bad) = absurd (true≢false (sym named ∙ ba
 -- a reply is the tree's answer, or memory lacks
 abbrev pub Replies : Tree → Ask → Reply → Type 0
 Replies tree a reply = (reply ≡ reply_to tree a) ⊎ (reply ≡ Err error.Memory)
+
+pub replies : (a b : Ask) (reply : Reply) (tree : Tree) → a ≡ b → IsReadReply a reply (reply_to tree a)
+    → Replies tree b reply
+replies a b reply tree asked reads = subst (λ (x : Ask). Replies tree x reply) asked (elim reads [
+  | inl s ↦ inl s
+  | inr r ↦ inr r.1
+])
 
 pub kept_replies : (n : ℕ) (a b : Ask) (reply : Reply) (tree : Tree) (Means : Meaning) → a ≡ b
     → ReadsAt n a reply Means → ShowsKept Means n tree → Replies tree b reply

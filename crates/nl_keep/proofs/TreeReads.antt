@@ -84,6 +84,29 @@ stands_by path len bytes tree named = by_path (path_of (spelling path)) (parsed 
         (file.0, ap (file_at tree) (sym (spells p named refl)) ∙ file.1)
     by_path (Err e) spells found = cc
 
+-- ---- of what answers for a tree
+
+replied : (a b : Ask) (reply : Reply) (found : Answer) (tree : Tree) → a ≡ b
+    → IsReadReply a reply (reply_to tree a) → reply ≡ Ok found → reply_to tree b ≡ Ok found
+replied a b reply found tree asked reads is = subst (λ (x : Ask). reply_to tree x ≡ Ok found) asked (elim reads [
+  | inl s ↦ sym s ∙ is
+  | inr r ↦ let no : Ok found ≡ Err error.Memory = sym is ∙ r.1 in cc
+])
+
+pub listed : (path : Path) (a : Ask) (reply : Reply) (names : List Named) (tree : Tree)
+    → list_all is_name path ≡ true → a ≡ ask.List (spelling path) → IsReadReply a reply (reply_to tree a)
+    → reply ≡ Ok (answer.Names names) → list tree path ≡ Ok names
+listed path a reply names tree named asked reads is =
+    listed_by path names tree named
+    (replied a (ask.List (spelling path)) reply (answer.Names names) tree asked reads is)
+
+pub read_whole : (path : Path) (a : Ask) (reply : Reply) (bytes : List ℕ) (tree : Tree) → IsTree tree
+    → list_all is_name path ≡ true → a ≡ ask.Bytes (spelling path) 0 18446744073709551615
+    → IsReadReply a reply (reply_to tree a) → reply ≡ Ok (answer.Bytes bytes) → file_at tree path ≡ Ok bytes
+read_whole path a reply bytes tree t named asked reads is =
+    read_by path bytes tree t named
+    (replied a (ask.Bytes (spelling path) 0 18446744073709551615) reply (answer.Bytes bytes) tree asked reads is)
+
 -- ---- of a checkpoint
 
 -- what `read_at` ensures
@@ -109,22 +132,6 @@ told : (n : ℕ) (a b : Ask) (reply : Reply) (found : Answer) (tree : Tree) (Mea
 told n a b reply found tree Means asked reads is shown =
     subst (λ (x : Ask). reply_to tree x ≡ Ok found) asked
     (answered n a reply found tree shown.world shown.copy (reads shown.world shown.means) is shown.kept shown.has)
-
-pub listed : (n : ℕ) (path : Path) (a : Ask) (reply : Reply) (names : List Named) (Means : Meaning)
-    → list_all is_name path ≡ true → a ≡ ask.List (spelling path) → ReadsAt n a reply Means
-    → reply ≡ Ok (answer.Names names) → (tree : Tree) → ShowsKept Means n tree → list tree path ≡ Ok names
-listed n path a reply names Means named asked reads is tree shown =
-    listed_by path names tree named
-    (told n a (ask.List (spelling path)) reply (answer.Names names) tree Means asked reads is shown)
-
-pub read_whole : (n : ℕ) (path : Path) (a : Ask) (reply : Reply) (bytes : List ℕ) (Means : Meaning)
-    → list_all is_name path ≡ true → a ≡ ask.Bytes (spelling path) 0 18446744073709551615
-    → ReadsAt n a reply Means → reply ≡ Ok (answer.Bytes bytes)
-    → (tree : Tree) → ShowsKept Means n tree → file_at tree path ≡ Ok bytes
-read_whole n path a reply bytes Means named asked reads is tree shown =
-    read_by path bytes tree shown.is_tree named
-    (told n a (ask.Bytes (spelling path) 0 18446744073709551615) reply (answer.Bytes bytes) tree Means asked reads
-    is shown)
 
 pub file_stands : (n : ℕ) (path : Path) (len : ℕ) (a : Ask) (reply : Reply) (bytes : List ℕ) (Means : Meaning)
     → list_all is_name path ≡ true → a ≡ ask.Bytes (spelling path) 0 len

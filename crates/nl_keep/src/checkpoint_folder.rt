@@ -5,10 +5,11 @@ ghost use Rattle.nl_types.specs.Plain.Trees.{Tree};
 ghost use Rattle.nl_folders.specs.Refusals.{RefusesPath};
 ghost use Rattle.nl_keep.specs.Shown.{ShowsKept};
 
-use crate::asking::{bytes_of, first_bytes, listing_of, names_of, whole_file};
+use crate::answering::{Answering, bytes_answered, names_answered};
+use crate::asking::{bytes_of, first_bytes};
 use crate::volume::Volume;
 use nl_folders::{Folder, FolderError, Name};
-use nl_types::{CheckpointNumber, Items, Named};
+use nl_types::{Ask, CheckpointNumber, Items, Named, Reply};
 use std::alloc::Global;
 
 /// The tree of a kept checkpoint, be it a snapshot or plain. Its calls are refused as the volume's `read_at`
@@ -38,6 +39,18 @@ impl<V: Volume> CheckpointFolder<'_, V> {
     }
 }
 
+impl<V: Volume> Answering for CheckpointFolder<'_, V> {
+    ghost use Rattle.nl_keep.specs.Shown.{ShowsKept};
+
+    ghost answers = { λ f. ShowsKept (V.means f.volume.now) f.number };
+
+    ghost sound = { λ f tree shown. shown.is_tree };
+
+    fn answer(&self, ask: &Ask) -> Reply {
+        self.volume.read_at(self.number, ask)
+    }
+}
+
 impl<V: Volume> Folder for CheckpointFolder<'_, V> {
     ghost use Rattle.std.specs.Prelude.{⊤};
     ghost use Rattle.nl_keep.specs.Shown.{ShowsKept};
@@ -51,14 +64,10 @@ impl<V: Volume> Folder for CheckpointFolder<'_, V> {
     ghost keeps_on = { λ f g h one other. tt };
 
     fn list(&mut self, alloc: Global, path: &[Name]) -> Result<Items<Named>, FolderError> {
-        let ask = listing_of(alloc, path)?;
-        let reply = self.volume.read_at(self.number, &ask);
-        names_of(reply)
+        names_answered(alloc, self, path)
     }
 
     fn read(&mut self, alloc: Global, path: &[Name]) -> Result<Items<u8>, FolderError> {
-        let ask = whole_file(alloc, path)?;
-        let reply = self.volume.read_at(self.number, &ask);
-        bytes_of(reply)
+        bytes_answered(alloc, self, path)
     }
 }

@@ -1,6 +1,7 @@
 //! Trees kept in the checkpoints of a volume: stored as snapshots, read back as they were, and forgotten.
 #![tactic(auto)]
 
+mod answering;
 mod asking;
 mod checkpoint_folder;
 mod current_folder;
@@ -13,6 +14,7 @@ mod tidying;
 mod trees;
 mod volume;
 
+pub use answering::{Answering, bytes_answered, names_answered};
 pub use checkpoint_folder::CheckpointFolder;
 pub use forgetting::forget;
 pub use storing::{KeepError, Stored, store, store_over};

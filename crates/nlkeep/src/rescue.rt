@@ -10,7 +10,7 @@ use nl_folders::Path;
 use nl_host::Reason;
 use nl_layout::CheckpointEntry;
 use nl_manifests::{LineFault, Opened, open};
-use nl_types::{CheckpointNumber, Items, Object, VolError};
+use nl_types::{CheckpointNumber, Geometry, Items, Object, VolError};
 use std::alloc::{AllocError, Global};
 use std::fs;
 use std::io::Write;
@@ -63,6 +63,7 @@ fn make_new_folder(rt: &HostRuntime, folder: &str) -> Result<(), Fault> {
 #[derive(Clone, Copy)]
 struct Rescuing<'a> {
     rt: &'a HostRuntime,
+    geometry: Geometry,
     pages: &'a ImagePages,
     folder: &'a str,
 }
@@ -91,10 +92,7 @@ impl Rescuing<'_> {
     /// What a checkpoint shows, as far as it can be read. None where its root can't be. What is lost is told, and
     /// whether nothing is.
     fn opened(&self, entry: &CheckpointEntry) -> Result<Option<(Opened, bool)>, VolError> {
-        let Some(root) = entry.root.root() else {
-            return Ok(None);
-        };
-        let Ruin { tree, lost, .. } = Ruin::read(self.rt.alloc(), self.pages, root)?;
+        let Ruin { tree, lost } = Ruin::read(self.rt.alloc(), self.pages, self.geometry, entry)?;
         if tree.is_empty() {
             return Ok(None);
         }
@@ -179,7 +177,12 @@ fn rescue_pages<W: Write>(
 ) -> Result<bool, Fault> {
     let folder = word(matches, "FOLDER");
     make_new_folder(rt, folder)?;
-    let rescuing = Rescuing { rt, pages, folder };
+    let rescuing = Rescuing {
+        rt,
+        geometry: sections.geometry,
+        pages,
+        folder,
+    };
     rescuing.all(word(matches, "IMAGE"), sections, printer)
 }
 
