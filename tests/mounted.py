@@ -3,6 +3,7 @@ configuration, and random calls beside a plain folder."""
 
 import contextlib
 import errno
+import fcntl
 import hashlib
 import os
 import random
@@ -18,16 +19,40 @@ class Mount:
     def __init__(self, program, work, name, *options):
         self.program, self.options, self.runs = program, options, None
         self.image, self.top = os.path.join(work, name + ".img"), os.path.join(work, name)
+        self.log = os.path.join(work, name + ".log")
         os.makedirs(self.top, exist_ok=True)
+
+    def said(self):
+        """What the program wrote on its standard error, without what libfuse did."""
+        with open(self.log, encoding="utf-8") as it:
+            return "".join(line for line in it if line.startswith("nlfuse: "))
+
+    @contextlib.contextmanager
+    def started(self):
+        """A mount that the row itself ends; one that fails leaves none."""
+        self.__enter__()
+        try:
+            yield
+        finally:
+            if self.runs.poll() is None:
+                subprocess.run(["fusermount3", "-u", "-z", self.top], check=False)
+                self.runs.kill()
+                self.runs.wait()
+
+    def end(self):
+        """Unmounts and waits, and answers the status of that, what it said, and the status of the mount."""
+        ran = subprocess.run([self.program, "-u", self.top], capture_output=True, text=True, timeout=60, check=False)
+        return ran.returncode, ran.stderr, self.runs.wait(60)
 
     def __enter__(self):
         words = [self.program, self.image, self.top, "-f", "-o", ",".join(["init", *self.options])]
-        self.runs = subprocess.Popen(words)
+        with open(self.log, "a", encoding="utf-8") as log:
+            self.runs = subprocess.Popen(words, stderr=log)
         until = time.monotonic() + 60
         while not os.path.ismount(self.top):
             if self.runs.poll() is not None or time.monotonic() > until:
                 self.runs.kill()
-                raise AssertionError(f"{words}: nothing is mounted")
+                raise AssertionError(f"{words}: nothing is mounted: {self.said()}")
             time.sleep(0.05)
         return self
 
@@ -35,7 +60,7 @@ class Mount:
         # lazily, so that a row which failed with a file open leaves no mount
         subprocess.run(["fusermount3", "-u", "-z", self.top], check=True)
         if self.runs.wait(120):
-            raise AssertionError(f"nlfuse ended with {self.runs.returncode}")
+            raise AssertionError(f"nlfuse ended with {self.runs.returncode}: {self.said()}")
 
     def at(self, *names):
         return os.path.join(self.top, *names)
@@ -50,8 +75,10 @@ class Mount:
     def sync(self):
         """Makes a checkpoint, and saves it."""
         at = os.open(self.top, os.O_RDONLY)
-        os.fsync(at)
-        os.close(at)
+        try:
+            os.fsync(at)
+        finally:
+            os.close(at)
 
     def forget(self, number):
         """Makes a snapshot plain, and removes it."""
@@ -305,6 +332,43 @@ def misconfigured(program, work, due):
         due(os.path.exists(os.path.join(work, "none.img")), False, "the image")
 
 
+def unopened(program, work, due):
+    """That what is no regular file isn't opened as an image, and that no more is read than an image has."""
+    pipe, zeros, top = os.path.join(work, "pipe.img"), os.path.join(work, "zeros.img"), os.path.join(work, "unopened")
+    os.mkfifo(pipe)
+    os.mkdir(top)
+    with open(zeros, "wb") as it:
+        # (the mark, and counts of a volume of 512 KiB)
+        it.write(b"NLVOL002" + bytes([8, 0, 0, 0, 64, 0, 0, 0, 1, 0, 0, 0, 0, 0, 0, 0]))
+        it.truncate(3 << 30)
+    for image, told in [(pipe, "is no regular file"), (zeros, "no image: refused by 24, condition 3")]:
+        words = ["sh", "-c", 'ulimit -v 1000000; exec "$@"', "sh", program, image, top, "-f"]
+        ran = subprocess.run(words, capture_output=True, text=True, timeout=20, check=False)
+        due((ran.returncode, ran.stderr), (1, f"nlfuse: {image}: {told}\n"), "what is no image")
+
+
+def closed_streams(mount, work, due):
+    """That nothing is printed into the image where standard error is closed."""
+    with mount:
+        pass
+    script = os.path.join(work, "closed.sh")
+    with open(script, "w", encoding="utf-8") as it:
+        it.write(f'#!/bin/sh\nexec "{mount.program}" "$@" 2>&-\n')
+    os.chmod(script, 0o755)
+    mount.program = script
+    mount.__enter__()
+    with open(mount.at("a"), "wb") as it:
+        it.write(b"theirs comes between")
+    with open(mount.image, "ab") as it:
+        it.write(b"theirs")
+    with open(mount.image, "rb") as it:
+        theirs = it.read()
+    subprocess.run(["fusermount3", "-u", mount.top], check=True)
+    due(mount.runs.wait(120), 1, "the status of a mount whose image another program changed")
+    with open(mount.image, "rb") as it:
+        due(it.read() == theirs, True, "what that one put there")
+
+
 def many_writes(mount, due):
     """That the time of writes doesn't rise with what was written since the latest checkpoint."""
     data = bytes(range(256)) * 16
@@ -326,17 +390,212 @@ def many_writes(mount, due):
 def delayed(mount, nlvol, due):
     """That a save waits, and comes in time, also while more is written."""
     with mount:
+        first = os.stat(mount.image).st_ino
         file = os.open(mount.at("a"), os.O_WRONLY | os.O_CREAT)
         os.write(file, b"1")
         os.fsync(file)
-        due(os.path.exists(mount.image), False, "the image before its time")
+        due(os.stat(mount.image).st_ino, first, "the image before its time")
         until = time.monotonic() + 20
-        while not os.path.exists(mount.image) and time.monotonic() < until:
+        while os.stat(mount.image).st_ino == first and time.monotonic() < until:
             os.write(file, b"2")
             time.sleep(0.1)
         os.close(file)
         with nlvol.load(open(mount.image, "rb").read()) as v:
             due(v.read_bytes("/a")[:2], b"12", "the file of the image")
+
+
+# ---- what is lost by nothing
+
+
+def write(path, data):
+    with open(path, "wb") as it:
+        it.write(data)
+
+
+def hidden_folder(mount, work, due):
+    """That a folder of the name of manifests is refused before it is made, also of what copies folders."""
+    plain = os.path.join(work, "has-manifest")
+    os.makedirs(os.path.join(plain, ".nlkeep"))
+    write(os.path.join(plain, "b"), b"2")
+    with mount:
+        os.mkdir(mount.at("d"))
+        for path in (".nlkeep", "d/.nlkeep"):
+            refused(errno.EPERM, os.mkdir, mount.at(path))
+        due(subprocess.run(["cp", "-r", plain, mount.at("copy")], capture_output=True, check=False).returncode, 1, "cp")
+        write(mount.at("a"), b"1")
+        mount.sync()
+    with mount:
+        seen = {"a": b"1", "copy": None, "copy/b": b"2", "d": None}
+        due(contents(mount.top), seen, "the tree after a remount")
+        os.rmdir(mount.at("d"))
+
+
+def unwritten_manifest(mount, nlvol, due):
+    """That an image with a folder in a manifest's place is saved, without the attributes there, and that this is told;
+    and that they are kept once the folder is gone."""
+    with nlvol.create(mount.image) as v:
+        v.mkdir("/.nlkeep")
+        v.write_bytes("/.nlkeep/a", b"1")
+    with mount:
+        write(mount.at("b"), b"2")
+        os.chmod(mount.at("b"), 0o751)
+        mount.sync()
+    told = f"nlfuse: {mount.image}: modes, times, owners and links of / are left out: File exists\n"
+    due(mount.said(), told, "what is told")
+    with mount:
+        due(sorted(os.listdir(mount.top)), [".nlkeep", "b"], "the names after a remount")
+        due(stat.S_IMODE(os.stat(mount.at("b")).st_mode), 0o644, "the mode that is left out")
+        os.unlink(mount.at(".nlkeep/a"))
+        os.rmdir(mount.at(".nlkeep"))
+        refused(errno.EPERM, os.mkdir, mount.at(".nlkeep"))
+        os.chmod(mount.at("b"), 0o751)
+    with mount:
+        due(sorted(os.listdir(mount.top)), ["b"], "the names in the end")
+        due(stat.S_IMODE(os.stat(mount.at("b")).st_mode), 0o751, "the mode in the end")
+
+
+def kept(mount, nlvol, due):
+    """That what can't take the image's place at the end is kept under a name of its own, and stays there."""
+    folder, name = os.path.split(mount.image)
+    for number in range(2):
+        path = os.path.join(folder, f".{name}.nlvol-kept-{number}")
+        with mount.started():
+            write(mount.at("a"), b"%d" % number)
+            shutil.copy(mount.image, mount.image + "-theirs")
+            os.replace(mount.image + "-theirs", mount.image)
+            status, said, ended = mount.end()
+        due((status, ended), (1, 1), "the status")
+        due(path in said, True, f"that {said} names what is kept")
+        due(oct(os.stat(path).st_mode & 0o777), oct(0o600), "its mode")
+        with nlvol.load(open(path, "rb").read()) as v:
+            due(v.read_bytes("/a"), b"%d" % number, "what is kept")
+    for _ in range(3):
+        with mount:
+            write(mount.at("a"), b"more")
+    beside = sorted(it for it in os.listdir(folder) if it.startswith(f".{name}"))
+    due(beside, [f".{name}.nlvol-kept-{number}" for number in range(2)], "what stays behind three saves")
+
+
+def kept_elsewhere(mount, work, nlvol, due):
+    """That an image whose folder takes nothing any more is kept where files for a while are."""
+    folder, other = os.path.join(work, "mount-gone"), os.path.join(work, "for-a-while")
+    os.mkdir(folder)
+    os.mkdir(other)
+    mount.image, before = os.path.join(folder, "a.img"), os.environ.get("TMPDIR")
+    os.environ["TMPDIR"] = other
+    try:
+        with mount.started():
+            write(mount.at("a"), b"1")
+            shutil.rmtree(folder)
+            status, _, ended = mount.end()
+    finally:
+        os.environ.pop("TMPDIR")
+        if before is not None:
+            os.environ["TMPDIR"] = before
+    due((status, ended, os.listdir(other)), (1, 1, [".a.img.nlvol-kept-0"]), "the statuses, and what is kept")
+    due(f"is kept in {other}/.a.img.nlvol-kept-0\n" in mount.said(), True, "what is told")
+    with open(os.path.join(other, ".a.img.nlvol-kept-0"), "rb") as it, nlvol.load(it.read()) as v:
+        due(v.read_bytes("/a"), b"1", "its file")
+
+
+def names_taken(mount, work, due):
+    """That a save which finds all names taken is refused, and the one at the end is not."""
+    folder = os.path.join(work, "mount-taken")
+    os.mkdir(folder)
+    mount.image = os.path.join(folder, "a.img")
+    with mount:
+        write(mount.at("a"), b"1")
+        for number in range(100):
+            os.symlink("nothing", os.path.join(folder, f".a.img.nlvol-save-{number}"))
+        refused(errno.EEXIST, mount.sync)
+    due(len(os.listdir(folder)), 101, "the names")
+    with mount:
+        due(contents(mount.top), {"a": b"1"}, "what was saved at the end")
+
+
+def waited(mount, nlvol, due):
+    """That `nlfuse -u` ends once the image is saved and free, with what came of it, and leaves nothing."""
+    folder, name = os.path.split(mount.image)
+    for number in range(3):
+        with mount.started():
+            write(mount.at("a"), bytes([number]) * 3000000)
+            due(mount.end(), (0, "", 0), "the end of the mount")
+        with nlvol.open(mount.image) as v:
+            due(v.read_bytes("/a") == bytes([number]) * 3000000, True, "the file of the image")
+    due([it for it in os.listdir(folder) if it.startswith(f".{name}")], [], "what stands beside it")
+    ran = subprocess.run([mount.program, "-u", folder], capture_output=True, text=True, check=False)
+    due((ran.returncode, ran.stderr), (2, f"nlfuse: {folder}: nlfuse has nothing mounted there\n"), "no mount")
+    with mount.started():
+        with open(mount.at("a"), "rb") as _:
+            ran = subprocess.run([mount.program, "-u", mount.top], capture_output=True, timeout=20, check=False)
+            due(ran.returncode, 1, "the status while a file is open")
+        due(mount.end(), (0, "", 0), "the end then")
+
+
+def made_at_once(mount, due):
+    """That a new image is there from the start, locked and for its owner alone, and is gone where nothing could be
+    mounted."""
+    words = [mount.program, mount.image, mount.top, "-f", "-o", "init"]
+    with mount:
+        due(oct(os.stat(mount.image).st_mode & 0o777), oct(0o600), "the mode")
+        ran = subprocess.run(words, capture_output=True, text=True, timeout=20, check=False)
+        told = f"nlfuse: {mount.image}: another program has it in use\n"
+        due((ran.returncode, ran.stderr), (1, told), "the second mount")
+        write(mount.at("a"), b"1")
+    with mount:
+        due(contents(mount.top), {"a": b"1"}, "what the first one had")
+    os.unlink(mount.image)
+    words[2] += "-none"
+    ran = subprocess.run(words, capture_output=True, timeout=20, check=False)
+    due((ran.returncode != 0, os.path.exists(mount.image)), (True, False), "a mount without a folder")
+
+
+SIDES_THAT_STAY = sorted(
+    [".a.img.nlvol-kept-0", ".a.img.nlvol-save-1", ".a.img.nlvol-save-2", ".a.img.nlvol-save-3"]
+    + [".a.img.nlvol-save-4", ".a.img.nlvol-save-5", "a.img", "link"]
+)
+
+
+def leave_sides(folder, name):
+    """Puts files beside an image: a cut save, an image, one with a lock, which is answered, one of two links, a link,
+    a folder, and one that is kept. All but the first stay."""
+    side = os.path.join(folder, f".{name}.nlvol-save-")
+    write(side + "0", b"NLVOL002 and no more")
+    shutil.copy(os.path.join(folder, name), side + "1")
+    locked = os.open(side + "2", os.O_RDWR | os.O_CREAT)
+    fcntl.flock(locked, fcntl.LOCK_EX)
+    write(side + "3", b"")
+    os.link(side + "3", os.path.join(folder, "link"))
+    os.symlink("nothing", side + "4")
+    os.mkdir(side + "5")
+    write(os.path.join(folder, f".{name}.nlvol-kept-0"), b"")
+    return locked
+
+
+def cleared(mount, work, due):
+    """That a save removes what cut saves left, and nothing else, and tells each once."""
+    folder = os.path.join(work, "mount-sides")
+    os.mkdir(folder)
+    mount.image = os.path.join(folder, "a.img")
+    with mount:
+        pass
+    locked = leave_sides(folder, "a.img")
+    with mount:
+        for number in range(3):
+            write(mount.at("a"), b"%d" % number)
+            mount.sync()
+        due(sorted(os.listdir(folder)), SIDES_THAT_STAY, "what stays")
+        due([it.rpartition("-")[2] for it in mount.said().splitlines()], ["0", "1"], "what is told")
+    os.close(locked)
+    long = os.path.join(folder, "n" * 241)
+    cut = os.path.join(folder, "." + "n" * 240 + ".nlvol-save-0")
+    mount.image = long
+    with mount:
+        pass
+    write(cut, b"of another image")
+    with mount:
+        write(mount.at("a"), b"1")
+    due(os.path.exists(cut), True, "a file that may be another image's")
 
 
 # ---- random calls

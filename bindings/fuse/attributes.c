@@ -22,7 +22,8 @@ struct folder {
     char *path;
     bool is_told;    /* it has a manifest, or will have one */
     bool is_changed; /* since the manifest was written */
-    bool is_shown;   /* its .nlkeep is no manifest, but an ordinary file */
+    bool is_shown;   /* its .nlkeep is no manifest, but an ordinary file or a directory */
+    bool is_said;    /* that its attributes are left out */
     uint64_t turn;   /* in which it was counted last */
     struct attributes own;
     struct line *lines; /* ascending by name */
@@ -151,9 +152,11 @@ static void read_manifest(struct folder *folder) {
     nl_object object;
     nl_attributes own;
     uint64_t count = 0;
-    if (!path || nl_stat(&nlfuse.volume, folder->at, path, strlen(path), &object) != NL_DONE ||
-        object.kind != NL_FILE)
+    if (!path || nl_stat(&nlfuse.volume, folder->at, path, strlen(path), &object) != NL_DONE) goto end;
+    if (object.kind != NL_FILE) {
+        folder->is_shown = true;
         goto end;
+    }
     bytes = malloc(object.size + 1);
     if (!bytes ||
         nl_read(&nlfuse.volume, folder->at, path, strlen(path), 0, bytes, object.size, &count) != NL_DONE)
@@ -313,6 +316,12 @@ int touch(const char *path, bool is_dir) {
     return set_attributes(path, is_dir, &attributes);
 }
 
+void manifest_gone(const char *path) {
+    const char *name;
+    struct folder *folder = is_manifest_name(path) ? folder_above(0, path, &name) : NULL;
+    if (folder) folder->is_shown = false;
+}
+
 void forget(const char *path, bool is_dir) {
     const char *name;
     struct folder *folder = is_dir ? NULL : folder_above(0, path, &name);
@@ -406,13 +415,15 @@ static uint32_t put_bytes(const char *path, const char *bytes, uint64_t size) {
     uint64_t count = 0, same = 0;
     nl_object object = {NL_FILE, 0};
     uint32_t status = nl_stat(&nlfuse.volume, 0, path, length, &object);
-    if (nl_refusal(status) == NL_NOT_FOUND) status = nl_create(&nlfuse.volume, path, length);
+    bool is_new = nl_refusal(status) == NL_NOT_FOUND;
+    if (is_new) status = nl_create(&nlfuse.volume, path, length);
     char *old = malloc(size + 1);
     if (old && nl_read(&nlfuse.volume, 0, path, length, 0, old, size, &count) == NL_DONE)
         while (same < count && old[same] == bytes[same]) same++;
     free(old);
     if (status == NL_DONE && same < size)
         status = nl_write(&nlfuse.volume, path, length, same, bytes + same, size - same);
+    if (status != NL_DONE && is_new) nl_unlink(&nlfuse.volume, path, length);
     return status == NL_DONE && object.size > size ? nl_truncate(&nlfuse.volume, path, length, size) : status;
 }
 
@@ -430,13 +441,18 @@ static int write_manifest(struct folder *folder) {
     return told(status);
 }
 
-int settle_attributes(void) {
-    int error = 0;
+static void settle_folder(struct folder *folder) {
+    char text[4300];
+    int error = folder->is_shown ? -EEXIST : write_manifest(folder);
+    if (error && !folder->is_said) {
+        snprintf(text, sizeof text, "modes, times, owners and links of %s are left out", folder->path);
+        say(text, -error);
+    }
+    folder->is_said = error;
+}
+
+void settle_attributes(void) {
     for (size_t i = 0; i < BUCKETS; i++)
         for (struct folder *folder = buckets[i]; folder; folder = folder->next)
-            if (!folder->at && folder->is_changed && !folder->is_shown) {
-                int other = write_manifest(folder);
-                if (other) error = other;
-            }
-    return error;
+            if (!folder->at && folder->is_changed) settle_folder(folder);
 }

@@ -279,8 +279,8 @@ static int make_node(const char *path, mode_t mode, dev_t device) {
 
 static int make_snapshot(void) {
     uint64_t number;
-    int error = settle_attributes();
-    if (!error) error = told(make_checkpoint(NL_SNAPSHOT, &number));
+    settle_attributes();
+    int error = told(make_checkpoint(NL_SNAPSHOT, &number));
     is_now_made = !error;
     return error;
 }
@@ -290,6 +290,7 @@ static int make_folder(const char *path, mode_t mode) {
     int error = enter(path, &place);
     if (!error && place.kind == NOW) return leave(make_snapshot());
     if (!error && (place.kind != IN_TREE || place.at)) error = -EROFS;
+    if (!error && is_hidden(&place)) error = -EPERM;
     if (!error && target_at(0, path)) error = -EEXIST;
     if (!error) error = take_room_in(path, 0);
     if (!error) error = told(nl_mkdir(&nlfuse.volume, path, strlen(path)));
@@ -315,6 +316,7 @@ static int remove_file(const char *path) {
     if (!error && !is_link) error = told(nl_unlink(&nlfuse.volume, path, strlen(path)));
     if (error) return leave(error);
     forget(path, false);
+    manifest_gone(path);
     touch_above(path);
     return leave(0);
 }
@@ -346,6 +348,7 @@ static int remove_folder(const char *path) {
     if (!error) error = told(nl_rmdir(&nlfuse.volume, path, strlen(path)));
     if (error) return leave(error);
     forget(path, true);
+    manifest_gone(path);
     touch_above(path);
     return leave(0);
 }
@@ -376,6 +379,7 @@ static int move_path(const char *from, const char *to, unsigned flags) {
     if (moved.kind != LINK) error = told(nl_rename(&nlfuse.volume, from, strlen(from), to, strlen(to)));
     if (!error) error = move_attributes(from, to, moved.kind == NL_DIRECTORY);
     if (error) return error;
+    manifest_gone(from);
     touch_above(from);
     touch_above(to);
     return 0;
@@ -441,6 +445,7 @@ static int change_times(const char *path, const struct timespec times[2], struct
 static int set_mode(const char *path, const char *name, const char *value, size_t size, int flags) {
     struct place place;
     (void)flags;
+    if (!strcmp(name, MOUNT_ATTRIBUTE) && !path[1]) return note_waiter(), 0;
     if (strcmp(name, MODE_ATTRIBUTE)) return -ENOTSUP;
     int error = enter(path, &place);
     if (error) return leave(error);
@@ -454,6 +459,7 @@ static int set_mode(const char *path, const char *name, const char *value, size_
 static int get_mode(const char *path, const char *name, char *value, size_t size) {
     struct place place;
     nl_checkpoint row;
+    if (!strcmp(name, MOUNT_ATTRIBUTE) && !path[1]) return tell_mount(value, size);
     if (strcmp(name, MODE_ATTRIBUTE)) return -ENODATA;
     int error = enter(path, &place);
     if (error) return leave(error);
@@ -478,6 +484,7 @@ static void *begin(struct fuse_conn_info *connection, struct fuse_config *config
     (void)connection;
     config->entry_timeout = config->negative_timeout = 0;
     config->attr_timeout = 1;
+    nlfuse.is_mounted = true;
     start_saving();
     return NULL;
 }

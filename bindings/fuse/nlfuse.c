@@ -3,6 +3,7 @@
 #include "nlfuse.h"
 
 #include <errno.h>
+#include <fcntl.h>
 #include <fuse_opt.h>
 #include <stddef.h>
 #include <stdio.h>
@@ -28,7 +29,7 @@ int told(uint32_t status) {
 
 struct words {
     char *image, *conf;
-    int save, max, init, help;
+    int save, max, init, help, unmount;
 };
 
 static const struct fuse_opt options[] = {
@@ -38,18 +39,24 @@ static const struct fuse_opt options[] = {
     {"init", offsetof(struct words, init), 1},
     {"-h", offsetof(struct words, help), 1},
     {"--help", offsetof(struct words, help), 1},
+    {"-u", offsetof(struct words, unmount), 1},
     FUSE_OPT_END,
 };
 
 static const char help[] =
     "usage: nlfuse IMAGE DIR [-o OPTION..]\n"
+    "       nlfuse -u DIR\n"
     "\n"
     "Mounts the volume of IMAGE at DIR: its current tree, and below DIR/.checkpoints the kept ones, by their\n"
     "numbers and, in by-date, by their moments. `mkdir DIR/.checkpoints/now` makes a snapshot, and\n"
     "`rmdir DIR/.checkpoints/N` removes a plain checkpoint; the attribute user.nlvol.mode of one is ss or cp,\n"
-    "and can be set. `fusermount3 -u DIR` saves the image. IMAGE is locked until then.\n"
+    "and can be set.\n"
     "\n"
-    "    -o init              makes IMAGE where there is none\n"
+    "IMAGE is saved by an fsync, and at the end, and by nothing else: `sync` saves nothing. `nlfuse -u DIR`\n"
+    "unmounts DIR, and waits until IMAGE is saved; its status is 1 where that failed, and it says why.\n"
+    "`fusermount3 -u DIR` doesn't wait. IMAGE is locked until the end. A full volume may refuse `rm` too.\n"
+    "\n"
+    "    -o init              makes IMAGE where there is none, for you alone\n"
     "    -o save=SECONDS      fsync returns at the checkpoint, and the image is saved within so many seconds:\n"
     "                         what was synced in these is lost if the machine stops. Else fsync saves it\n"
     "    -o conf=FILE         where room lacks, plain checkpoints are let go that are older than the\n"
@@ -102,7 +109,18 @@ static bool read_configuration(const char *path) {
     return nlfuse.is_configured;
 }
 
+/* Opens /dev/null in the place of each standard stream that is closed: else the image would get its number, and what
+ * is printed. */
+static bool take_streams(void) {
+    int file;
+    do file = open("/dev/null", O_RDWR);
+    while (file >= 0 && file <= STDERR_FILENO);
+    if (file >= 0) close(file);
+    return file >= 0;
+}
+
 int main(int argc, char **argv) {
+    if (!take_streams()) return perror("nlfuse: /dev/null"), 1;
     struct fuse_args args = FUSE_ARGS_INIT(argc, argv);
     struct words words = {.save = -1, .max = 256};
     if (fuse_opt_parse(&args, &words, options, take_word)) return 2;
@@ -110,9 +128,10 @@ int main(int argc, char **argv) {
         fputs(help, words.help ? stdout : stderr);
         return words.help ? 0 : 2;
     }
+    if (words.unmount) return unmount_and_wait(words.image);
     nlfuse.save_after = words.save;
     nlfuse.makes_image = words.init;
-    nlfuse.most_blocks = words.max > 0 && words.max < 256 ? (uint64_t)words.max * 1024 : 262144;
+    nlfuse.most_blocks = words.max > 0 && words.max < 256 ? (uint64_t)words.max * 1024 : MOST_BLOCKS;
     nlfuse.owner = getuid();
     nlfuse.group = getgid();
     clock_gettime(CLOCK_REALTIME, &nlfuse.began);
@@ -121,5 +140,7 @@ int main(int argc, char **argv) {
     fuse_opt_add_arg(&args, "-odefault_permissions,fsname=nlvol,subtype=nlfuse");
     int status = fuse_main(args.argc, args.argv, &operations, NULL);
     int error = close_image();
-    return status ? status : error ? 1 : 0;
+    status = status ? status : error ? 1 : 0;
+    leave_status(status);
+    return status;
 }

@@ -13,6 +13,9 @@
 #include <sys/stat.h>
 #include <time.h>
 
+/* How many blocks a volume has at most. */
+enum { MOST_BLOCKS = 262144 };
+
 /* ---- the volume, and what the mount was told at its start */
 
 struct nlfuse {
@@ -31,6 +34,10 @@ struct nlfuse {
     uint64_t most_blocks;
     /* Whether the volume differs from the image in the file. */
     bool is_unsaved;
+    /* Whether the image was made at the start, and whether the mount came to be. */
+    bool is_new, is_mounted;
+    /* What was said last: in the end that is why the image was not saved. */
+    char said[4400];
     /* Who the files belong to of which no manifest tells, and when they were changed. */
     uid_t owner;
     gid_t group;
@@ -44,14 +51,49 @@ int told(uint32_t status);
 
 /* ---- saving.c */
 
-/* Opens the image and takes its lock, or makes a new volume. False: it can't be, and that is told. */
+/* Says something of the image, on standard error and in the system's log; with an errno, or 0. */
+void say(const char *what, int error);
+/* Opens the image and takes its lock, or makes a new one. False: it can't be, and that is told. */
 bool open_image(const char *path);
-/* Saves what is not saved, gives the lock back, and closes the volume. 0, or an errno, negated. */
+/* Saves what is not saved, gives the lock back, and closes the volume. 0, or an errno, negated. A new image
+ * is taken away again where nothing was mounted. */
 int close_image(void);
+/* How long an image of the counts in its first block is. 0: these are of none. */
+uint64_t due_length(const uint8_t *first);
 /* Makes a checkpoint of what has changed, and saves it: at once, or in so many seconds. */
 int sync_volume(void);
 void start_saving(void);
 void end_saving(void);
+
+/* ---- sides.c */
+
+/* The path of a file beside an image, by what it is. */
+void path_beside(char *path, size_t room, const char *image, const char *what);
+/* Makes a new file beside the image, for its owner alone, with the lock where the system has locks. Its path
+ * is told. -1: it can't be, and errno says why. */
+int make_side(char *side, size_t room);
+/* The same under the first free name that says it is kept, beside the path of an image. */
+int make_kept(const char *image, char *kept, size_t room);
+/* Takes away what saves that were cut off have left, while the image's lock is held. */
+void clear_sides(void);
+/* Gives a file another name, if nothing stands there. */
+bool give_name(const char *side, const char *name);
+/* Gives a new image a name that says it is kept, if it has none yet, and says so. */
+void keep_side(const char *side, bool is_kept);
+/* Stores the folder of the image, so that names that were given there outlast a power cut. */
+void store_folder(void);
+
+/* ---- ending.c */
+
+/* What the mount tells of itself: its process and its image. */
+#define MOUNT_ATTRIBUTE "user.nlvol.mount"
+int tell_mount(char *value, size_t size);
+/* Somebody waits for the end of the mount, and how that went is to be left for them. */
+void note_waiter(void);
+/* Leaves it, once the image's lock is given back. */
+void leave_status(int status);
+/* Unmounts a directory and waits until its image is saved: nlfuse -u. The exit status. */
+int unmount_and_wait(const char *directory);
 
 /* ---- room.c */
 
@@ -121,8 +163,11 @@ int set_link(const char *path, const char *target);
 int touch(const char *path, bool is_dir);
 void forget(const char *path, bool is_dir);
 int move_attributes(const char *from, const char *to, bool is_dir);
-/* Writes the manifests that have changed into the volume. */
-int settle_attributes(void);
+/* Writes the manifests that have changed into the volume. What one that can't be written tells is left out,
+ * and that is said. */
+void settle_attributes(void);
+/* Notes that the file or directory .nlkeep at a path, which was no manifest, is there no more. */
+void manifest_gone(const char *path);
 /* How many blocks a change of a name adds at most in the directory above it and in that one's manifest, and
  * that they are counted. */
 uint64_t blocks_above(const char *path);

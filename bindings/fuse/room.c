@@ -68,9 +68,9 @@ static bool take(const struct change *change, uint64_t spare) {
 /* Asks the library, which has to know of the manifests that changed. */
 static int look(bool is_exact) {
     uint32_t (*ask)(nl_volume *, nl_room_told *) = is_exact ? nl_room : nl_room_bound;
-    int error = settle_attributes();
+    settle_attributes();
     turn++;
-    return error ? error : told(ask(&nlfuse.volume, &room));
+    return told(ask(&nlfuse.volume, &room));
 }
 
 /* ---- how room is made */

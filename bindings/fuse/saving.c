@@ -16,10 +16,11 @@
 static struct stat found;
 
 /* On standard error, and in the system's log, since nobody reads the first of a mount in the background. */
-static void say(const char *what, int error) {
+void say(const char *what, int error) {
     const char *why = error ? strerror(error) : "";
-    fprintf(stderr, "nlfuse: %s: %s%s%s\n", nlfuse.image, what, error ? ": " : "", why);
-    syslog(LOG_USER | LOG_ERR, "%s: %s%s%s", nlfuse.image, what, error ? ": " : "", why);
+    snprintf(nlfuse.said, sizeof nlfuse.said, "%s: %s%s%s", nlfuse.image, what, error ? ": " : "", why);
+    fprintf(stderr, "nlfuse: %s\n", nlfuse.said);
+    syslog(LOG_USER | LOG_ERR, "%s", nlfuse.said);
 }
 
 static bool is_same(const struct stat *a, const struct stat *b) {
@@ -41,6 +42,7 @@ static bool lock_image(void) {
             return say("another program has it in use", error == EWOULDBLOCK ? 0 : error), false;
         }
         if (!fstat(file, &found) && !stat(nlfuse.image, &now) && is_same(&found, &now)) {
+            if (!S_ISREG(found.st_mode)) return close(file), say("is no regular file", 0), false;
             nlfuse.file = file;
             return true;
         }
@@ -49,8 +51,29 @@ static bool lock_image(void) {
     return say("other programs replace it time and again", 0), false;
 }
 
+static uint64_t number_in(const uint8_t *bytes, int count) {
+    uint64_t number = 0;
+    while (count--) number = number << 8 | bytes[count];
+    return number;
+}
+
+/* (docs/SPECIFICATION.md says how long an image is) */
+uint64_t due_length(const uint8_t *first) {
+    uint64_t segments = number_in(first + 8, 4), blocks = number_in(first + 12, 4), kept = number_in(first + 16, 8);
+    if (segments > 4096 || blocks > 2048 || kept > INT64_MAX / 256) return 0;
+    uint64_t tables = 1024 + 16 * segments + 24 * segments * blocks + 160 * kept;
+    return (tables + 1023) / 1024 * 1024 + 1024 * segments * blocks;
+}
+
+/* How much of the file is read: of one that hasn't the length of an image its first block, which is refused alike. */
+static size_t bytes_read(void) {
+    uint8_t first[1024];
+    bool has_block = pread(nlfuse.file, first, sizeof first, 0) == (ssize_t)sizeof first;
+    return has_block && due_length(first) != (uint64_t)found.st_size ? sizeof first : (size_t)found.st_size;
+}
+
 static uint8_t *read_image(size_t *size) {
-    size_t count = 0, room = (size_t)found.st_size;
+    size_t count = 0, room = bytes_read();
     uint8_t *bytes = malloc(room + 1);
     while (bytes && count < room) {
         ssize_t more = pread(nlfuse.file, bytes + count, room - count, (off_t)count);
@@ -86,20 +109,6 @@ static char *real_path(const char *path) {
     return whole;
 }
 
-bool open_image(const char *path) {
-    nlfuse.file = -1;
-    nlfuse.image = real_path(path);
-    if (!nlfuse.image) {
-        fprintf(stderr, "nlfuse: %s: %s\n", path, strerror(errno));
-        return false;
-    }
-    if (!nlfuse.makes_image || !access(nlfuse.image, F_OK)) return lock_image() && open_volume();
-    uint32_t status = nl_format(&nlfuse.volume, 64, 64, (uint64_t)time(NULL));
-    nlfuse.is_unsaved = true;
-    if (status != NL_DONE) say("no volume was made", told(status) ? -told(status) : EIO);
-    return status == NL_DONE;
-}
-
 /* ---- the end */
 
 static bool all_zero(const uint8_t *bytes, size_t count) {
@@ -129,19 +138,6 @@ static bool write_image(int file, uint64_t size) {
     return !ftruncate(file, (off_t)size);
 }
 
-/* Makes a new file beside the image, under the first of its names that is free. */
-static int make_side(char *side, size_t room) {
-    const char *name = strrchr(nlfuse.image, '/') + 1;
-    int folder = (int)(name - nlfuse.image), length = (int)strlen(name);
-    while (length > 240 || (length < (int)strlen(name) && ((uint8_t)name[length] & 0xc0) == 0x80)) length--;
-    for (int number = 0; number < 100; number++) {
-        snprintf(side, room, "%.*s.%.*s.nlvol-save-%d", folder, nlfuse.image, length, name, number);
-        int file = open(side, O_RDWR | O_CREAT | O_EXCL | O_CLOEXEC, nlfuse.file < 0 ? 0666 : 0600);
-        if (file >= 0 || errno != EEXIST) return file;
-    }
-    return -1;
-}
-
 /* Gives the new file the owner, the group and the mode of the old one, as far as the system lets it. */
 static bool give_mode(int file) {
     struct stat now;
@@ -157,52 +153,58 @@ static bool give_mode(int file) {
 /* Puts the new file in the place of the old one, if that is still there as it was. */
 static bool put_side(const char *side) {
     struct stat now;
-    if (nlfuse.file < 0) {
-        if (link(side, nlfuse.image)) return false;
-        return unlink(side), true;
-    }
+    if (nlfuse.file < 0) return give_name(side, nlfuse.image);
     if (stat(nlfuse.image, &now)) return false;
     if (!is_same(&found, &now)) return errno = ESTALE, false;
     return !rename(side, nlfuse.image);
 }
 
-static void store_folder(void) {
-    char *folder = strdup(nlfuse.image);
-    if (!folder) return;
-    strrchr(folder, '/')[1] = 0;
-    int file = open(folder, O_RDONLY | O_DIRECTORY | O_CLOEXEC);
-    if (file >= 0) {
-        fsync(file); /* some file systems don't store folders by themselves */
-        close(file);
-    }
-    free(folder);
-}
-
 /* From now on the new file is the image, and holds the lock. */
-static void keep_side(int file) {
+static void keep_side_open(int file) {
     if (nlfuse.file >= 0) close(nlfuse.file);
     nlfuse.file = file;
     fstat(file, &found);
     store_folder();
 }
 
-/* At the end of a mount a new file that can't take the image's place stays beside it. */
+/* At the end of a mount an image for which its own folder has no place is kept where files for a while are. */
+static void keep_elsewhere(uint64_t size) {
+    char image[PATH_MAX], kept[PATH_MAX + 300];
+    const char *folder = getenv("TMPDIR");
+    if (!folder || folder[0] != '/') folder = "/var/tmp";
+    snprintf(image, sizeof image, "%s%s", folder, strrchr(nlfuse.image, '/'));
+    int file = make_kept(image, kept, sizeof kept);
+    if (file < 0) return;
+    if (write_image(file, size) && !fsync(file)) keep_side(kept, true);
+    else unlink(kept);
+    close(file);
+}
+
+/* At the end of a mount a new file that can't take the image's place is kept beside it. */
 static int fill_and_put(uint64_t size, bool is_last) {
     char side[PATH_MAX + 300];
+    if (nlfuse.file >= 0) clear_sides();
     int file = make_side(side, sizeof side);
-    if (file < 0) return -errno;
-    flock(file, LOCK_EX | LOCK_NB);
-    bool is_new = nlfuse.file < 0;
+    bool is_kept = file < 0 && errno == EEXIST && is_last;
+    if (is_kept) file = make_kept(nlfuse.image, side, sizeof side);
+    int error = file < 0 ? errno : 0;
+    if (error) {
+        say("not saved", error);
+        if (is_last) keep_elsewhere(size);
+        return -error;
+    }
     errno = EIO;
-    bool is_written = write_image(file, size) && (is_new || give_mode(file)) && !fsync(file);
+    bool is_written = write_image(file, size) && (nlfuse.file < 0 || give_mode(file)) && !fsync(file);
     if (is_written && put_side(side)) {
-        keep_side(file);
+        keep_side_open(file);
         return 0;
     }
-    int error = errno;
-    if (is_written && is_last) say(side, 0), fchmod(file, 0600);
+    error = errno;
+    say("not saved", error);
+    if (is_written && is_last) fchmod(file, 0600), keep_side(side, is_kept);
     else unlink(side);
     close(file);
+    if (!is_written && is_last) keep_elsewhere(size);
     return -error;
 }
 
@@ -210,10 +212,11 @@ static int save_image(bool is_last) {
     uint64_t size;
     if (!nlfuse.is_unsaved) return 0;
     uint32_t status = nl_image(&nlfuse.volume, &size);
-    int error = status == NL_DONE ? fill_and_put(size, is_last) : told(status);
-    nl_release(&nlfuse.volume);
+    int error = told(status);
     if (error) say("not saved", -error);
-    else nlfuse.is_unsaved = false;
+    else error = fill_and_put(size, is_last);
+    nl_release(&nlfuse.volume);
+    if (!error) nlfuse.is_unsaved = false;
     return error;
 }
 
@@ -221,11 +224,38 @@ static int save_image(bool is_last) {
 static int settle(void) {
     nl_info_told info;
     uint64_t number;
-    int error = settle_attributes();
-    if (error) return error;
+    settle_attributes();
     uint32_t status = nl_info(&nlfuse.volume, &info);
     if (status == NL_DONE && info.dirty) status = make_checkpoint(NL_PLAIN, &number);
-    return status == NL_DONE ? 0 : told(status);
+    return told(status);
+}
+
+/* ---- a new image */
+
+/* It is there, and locked, before anything is mounted, so that of two mounts the second one is refused. */
+static bool make_image(void) {
+    uint32_t status = nl_format(&nlfuse.volume, 64, 64, (uint64_t)time(NULL));
+    if (status != NL_DONE) return say("no volume was made", told(status) ? -told(status) : EIO), false;
+    nlfuse.is_unsaved = true;
+    nlfuse.is_new = !save_image(false);
+    return nlfuse.is_new;
+}
+
+/* Nobody has seen it. */
+static void remove_image(void) {
+    struct stat now;
+    if (!lstat(nlfuse.image, &now) && is_same(&found, &now) && !unlink(nlfuse.image)) store_folder();
+}
+
+bool open_image(const char *path) {
+    nlfuse.file = -1;
+    nlfuse.image = real_path(path);
+    if (!nlfuse.image) {
+        fprintf(stderr, "nlfuse: %s: %s\n", path, strerror(errno));
+        return false;
+    }
+    if (nlfuse.makes_image && access(nlfuse.image, F_OK)) return make_image();
+    return lock_image() && open_volume();
 }
 
 /* ---- when it is saved */
@@ -277,11 +307,21 @@ int sync_volume(void) {
     return 0;
 }
 
-int close_image(void) {
+/* At the end the volume may grow past what the mount was told. */
+static int settle_at_last(void) {
     int error = settle();
+    if (error == -ENOSPC) {
+        nlfuse.most_blocks = MOST_BLOCKS;
+        error = settle();
+    }
+    return error;
+}
+
+int close_image(void) {
+    int error = settle_at_last(), other = save_image(true);
     if (error) say("what changed since the latest checkpoint is lost", -error);
-    int other = save_image(true);
     nl_close(&nlfuse.volume);
+    if (nlfuse.is_new && !nlfuse.is_mounted) remove_image();
     if (nlfuse.file >= 0) close(nlfuse.file);
     return error ? error : other;
 }

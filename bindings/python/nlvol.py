@@ -20,9 +20,10 @@ import ctypes.util
 import errno
 import fcntl
 import os
-import tempfile
+import stat
 import threading
 import time
+import warnings
 from typing import Iterator, NamedTuple, Type, Union
 
 __all__ = [
@@ -249,8 +250,8 @@ def config(text: bytes) -> Config:
     ...     error.line
     2
     """
-    told, line = _Config(), _u64()
-    status = _library.nlvol_config(bytes(text), len(text), ctypes.byref(told), ctypes.byref(line))
+    told, line, text = _Config(), _u64(), _flat(text)
+    status = _library.nlvol_config(text, len(text), ctypes.byref(told), ctypes.byref(line))
     if status:
         _raise(status, None, line.value)
     values = [getattr(told, name) for name in Config._fields]
@@ -451,6 +452,11 @@ def _spelled(path: Name) -> tuple[bytes, int]:
     return spelled, len(spelled)
 
 
+def _flat(data) -> bytes:
+    """All bytes of a buffer, whatever its items are. What is no buffer is refused by a TypeError."""
+    return data if isinstance(data, bytes) else memoryview(data).tobytes()
+
+
 def _given(argument, kind):
     """What a call gets of an argument. A number that is out of its range would be cut to it by ctypes."""
     if isinstance(argument, (ctypes.Structure, _u64)):
@@ -469,13 +475,18 @@ def _now(moment: int | None) -> int:
 
 class Volume(Tree):
     """A volume in memory, and its current tree. As a context it is closed at the end; where it came from a file, it
-    is saved there before that, unless an exception comes."""
+    is saved there before that, unless an exception comes. Where that save is refused it stays open."""
 
     def __init__(self) -> None:
-        super().__init__(self, 0)
+        self._at = 0
         self._handle, self._lock = _Handle(), threading.RLock()
         self._path: str | None = None
         self._file = None
+
+    @property
+    def _volume(self) -> Volume:
+        # It doesn't hold itself, so it ends where the last one who holds it lets it go.
+        return self
 
     def _call(self, name: str, *arguments, path: Name | None = None) -> None:
         given = [_given(it, kind) for it, kind in zip(arguments, _CALLS[name])]
@@ -519,11 +530,14 @@ class Volume(Tree):
         self._call("truncate", *_spelled(path), size, path=path)
 
     def write(self, path: Name, offset: int, data: bytes) -> None:
-        """Writes bytes over those of a file from an offset on, all of them or none."""
-        self._call("write", *_spelled(path), offset, bytes(data), len(data), path=path)
+        """Writes bytes over those of a file from an offset on, all of them or none. A buffer of other items, such as
+        an `array`, is written as its bytes."""
+        data = _flat(data)
+        self._call("write", *_spelled(path), offset, data, len(data), path=path)
 
     def write_bytes(self, path: Name, data: bytes) -> None:
-        """Makes a file of these bytes, in the place of a file that is there, as `pathlib.Path.write_bytes`.
+        """Makes a file of these bytes, in the place of a file that is there, as `pathlib.Path.write_bytes`. Refused, it
+        leaves the file as it was, or none.
 
         >>> with new() as v:
         ...     v.write_bytes("/a", b"longer")
@@ -531,12 +545,18 @@ class Volume(Tree):
         ...     v.read_bytes("/a")
         b'short'
         """
+        data = _flat(data)
         with self._lock:
-            if self.exists(path):
-                self.truncate(path, 0)
-            else:
+            is_new = not self.exists(path)
+            if is_new:
                 self.create(path)
-            self.write(path, 0, data)
+            try:
+                self.write(path, 0, data)
+            except Refused:
+                if is_new:
+                    self.unlink(path)
+                raise
+            self.truncate(path, len(data))
 
     # ---- checkpoints
 
@@ -677,13 +697,17 @@ class Volume(Tree):
 
     def save(self, path: str | None = None, moment: int | None = None) -> None:
         """Puts the image into a file, in the place of what is there: it is written beside it, and then renamed. With
-        no path it is the file that the volume came from."""
+        no path it is the file that the volume came from. Refused, it leaves the file and the volume as they were. What
+        saves of that file that were cut off have left beside it is removed, with a warning."""
         with self._lock:
             place = self._path if path is None else os.path.realpath(path)
             if place is None:
                 raise ValueError("the volume came from no file: say where to save it")
             is_new = place == self._path and self._file is None
-            written = _written(place, self.image(moment), is_new)
+            image = self.image(moment)
+            if place == self._path and not is_new:
+                _clear_sides(place)
+            written = _written(place, image, is_new)
             if place == self._path:
                 _close_file(self._file)
                 self._file = written
@@ -701,15 +725,17 @@ class Volume(Tree):
         return self
 
     def __exit__(self, kind, value, trace) -> None:
-        try:
-            if kind is None and self._path is not None and self._handle.is_open:
-                self.save()
-        finally:
-            self.close()
+        if kind is None and self._path is not None and self._handle.is_open:
+            self.save()
+        self.close()
 
     def __del__(self) -> None:
-        if getattr(self, "_handle", None) is not None and _library is not None:
-            _library.nlvol_close(ctypes.byref(self._handle))
+        if getattr(self, "_handle", None) is None or _library is None:
+            return
+        if self._handle.is_open and self._path is not None:
+            warnings.warn(f"unclosed volume of {self._path!r}", ResourceWarning, source=self)
+        _library.nlvol_close(ctypes.byref(self._handle))
+        _close_file(self._file)
 
 
 # ---- files
@@ -723,45 +749,161 @@ def _locked(file) -> None:
         raise BlockingIOError(errno.EWOULDBLOCK, "another program has the image in use", file.name) from None
 
 
+def _due_length(first: bytes) -> int:
+    """How long an image of the counts in its first block is."""
+    segments, blocks, kept = (int.from_bytes(first[at:end], "little") for at, end in ((8, 12), (12, 16), (16, 24)))
+    tables = 1024 + 16 * segments + 24 * segments * blocks + 160 * kept
+    return -(-tables // 1024) * 1024 + 1024 * segments * blocks
+
+
+def _bytes_in(file) -> bytes:
+    """The bytes of an image; of a file that hasn't the length of one its first block, which is refused alike."""
+    first = file.read(1024)
+    size = os.fstat(file.fileno()).st_size
+    return first + file.read(size - 1024) if len(first) == 1024 and _due_length(first) == size else first
+
+
 def _close_file(file) -> None:
     if file is not None:
         file.close()
 
 
+_SIDES, _MOST_BYTES = 100, 240
+
+
+def _sides(path: str) -> Iterator[str]:
+    """The names that nlvol, nlkeep and nlfuse give a new image before it takes its place."""
+    folder, name = os.path.split(os.fsencode(path))
+    cut = name[:_MOST_BYTES]
+    while len(cut) < len(name) and cut and name[len(cut)] & 0xC0 == 0x80:
+        cut = cut[:-1]
+    for number in range(_SIDES):
+        yield os.fsdecode(os.path.join(folder, b".%s.nlvol-save-%d" % (cut, number)))
+
+
+def _leads_to(path: str, descriptor: int) -> bool:
+    try:
+        return os.path.samestat(os.lstat(path), os.fstat(descriptor))
+    except FileNotFoundError:
+        return False
+
+
+def _is_locked(descriptor: int) -> bool:
+    """Takes the lock of a file beside an image. Refused where there are none, and False where another has it."""
+    try:
+        fcntl.flock(descriptor, fcntl.LOCK_EX | fcntl.LOCK_NB)
+    except BlockingIOError:
+        return False
+    return True
+
+
+def _is_left(descriptor: int) -> bool:
+    told = os.fstat(descriptor)
+    return stat.S_ISREG(told.st_mode) and told.st_nlink == 1 and told.st_uid == os.geteuid()
+
+
+def _is_image(descriptor: int) -> bool:
+    """Whether the bytes of a file may be an image."""
+    try:
+        with os.fdopen(os.dup(descriptor), "rb") as file:
+            load(_bytes_in(file))
+    except Refused as error:
+        return error.status != 24
+    return True
+
+
+def _clear_side(side: str) -> None:
+    descriptor = os.open(side, os.O_RDWR | os.O_NOFOLLOW | os.O_NONBLOCK | os.O_CLOEXEC)
+    try:
+        if not _is_locked(descriptor) or not _is_left(descriptor) or not _leads_to(side, descriptor):
+            return
+        if _is_image(descriptor):
+            warnings.warn(f"left, since it is an image: {side}", stacklevel=4)
+        else:
+            os.unlink(side)
+            warnings.warn(f"removed, since a save was cut off: {side}", stacklevel=4)
+    finally:
+        os.close(descriptor)
+
+
+def _clear_sides(path: str) -> None:
+    """Takes away what saves of an image that were cut off have left, while the image's lock is held."""
+    if len(os.path.basename(os.fsencode(path))) > _MOST_BYTES:
+        return
+    for side in _sides(path):
+        try:
+            if stat.S_ISREG(os.lstat(side).st_mode):
+                _clear_side(side)
+        except OSError:
+            pass  # it is not there, another program was faster, or there are no locks
+
+
+def _made_side(path: str) -> tuple[int, str]:
+    """A new file beside an image, for its owner alone, and its path. It is locked where there are locks."""
+    for side in _sides(path):
+        try:
+            descriptor = os.open(side, os.O_RDWR | os.O_CREAT | os.O_EXCL | os.O_CLOEXEC, 0o600)
+        except FileExistsError:
+            continue
+        try:
+            is_own = _is_locked(descriptor)
+        except OSError:
+            is_own = True
+        if is_own and _leads_to(side, descriptor):
+            return descriptor, side
+        os.close(descriptor)
+    raise FileExistsError(errno.EEXIST, "all names of a new image are taken beside it", path)
+
+
+def _give_name(aside: str, path: str) -> None:
+    """Gives a file a name at which nothing stands."""
+    try:
+        os.link(aside, path)
+    except FileExistsError:
+        raise
+    except OSError:
+        # where there are no hard links
+        if os.path.lexists(path):
+            raise FileExistsError(errno.EEXIST, os.strerror(errno.EEXIST), path) from None
+        os.rename(aside, path)
+    else:
+        os.unlink(aside)
+
+
+def _store_folder(path: str) -> None:
+    try:
+        at = os.open(os.path.dirname(path) or ".", os.O_RDONLY)
+    except OSError:
+        return
+    try:
+        os.fsync(at)
+    except OSError:
+        pass  # some file systems don't store folders by themselves
+    finally:
+        os.close(at)
+
+
 def _written(path: str, image: bytes, is_new: bool):
     """The file of an image, locked, which has taken the place of what was at the path; refused where it is to be a new
-    one, and something is there."""
-    folder, name = os.path.split(path)
-    descriptor, aside = tempfile.mkstemp(prefix="." + name + ".", dir=folder or ".")
+    one, and something is there. A new one is its owner's alone."""
+    descriptor, aside = _made_side(path)
+    file = os.fdopen(descriptor, "r+b")
     try:
-        file = os.fdopen(descriptor, "r+b")
-        _locked(file)
         file.write(image)
         file.flush()
-        mode = os.stat(path).st_mode & 0o7777 if os.path.exists(path) else 0o666 & ~_umask()
-        os.fchmod(descriptor, mode)
+        if os.path.exists(path):
+            os.fchmod(descriptor, os.stat(path).st_mode & 0o7777)
         os.fsync(descriptor)
         if is_new:
-            os.link(aside, path)
-            os.unlink(aside)
+            _give_name(aside, path)
         else:
             os.rename(aside, path)
     except BaseException:
+        file.close()
         os.unlink(aside)
         raise
-    try:
-        at = os.open(folder or ".", os.O_RDONLY)
-        os.fsync(at)
-        os.close(at)
-    except OSError:
-        pass  # some file systems don't store folders by themselves
+    _store_folder(path)
     return file
-
-
-def _umask() -> int:
-    mask = os.umask(0)
-    os.umask(mask)
-    return mask
 
 
 # ---- the ways to a volume
@@ -788,8 +930,8 @@ def load(image: bytes) -> Volume:
       ..
     nlvol.BadImage: [Errno 22] the bytes are no image
     """
-    volume = Volume()
-    volume._call("open", bytes(image), len(image))
+    volume, image = Volume(), _flat(image)
+    volume._call("open", image, len(image))
     return volume
 
 
@@ -813,7 +955,7 @@ def open(path: str) -> Volume:
             file.close()
             file = _open_file(place, "r+b")
             _locked(file)
-        volume = load(file.read())
+        volume = load(_bytes_in(file))
     except BaseException:
         file.close()
         raise

@@ -105,7 +105,7 @@ pub struct Config {
 }
 
 #[rustfmt::skip]
-extern "C" {
+unsafe extern "C" {
     fn nlvol_version() -> u32;
     fn nlvol_format(v: *mut Handle, segments: u32, blocks: u32, moment: u64) -> u32;
     fn nlvol_open(v: *mut Handle, image: *const u8, length: usize) -> u32;
