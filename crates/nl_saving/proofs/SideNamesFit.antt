@@ -14,3 +14,15 @@ side_fits name side cut number within small is =
       length-take cut name,
       length-decimal-le 2 number (omega arith) (omega arith) (omega arith),
     )
+
+pub kept_fits : (name kept : List ℕ) (cut number : ℕ) → cut ≤ 222 → number < 18446744073709551616
+    → kept ≡ codes "." ++ (take cut name ++ (codes ".nlvol-kept-" ++ decimal number)) → length kept ≤ 255
+kept_fits name kept cut number within small is =
+    omega (
+      arith,
+      ap length is,
+      length-append (take cut name) (codes ".nlvol-kept-" ++ decimal number),
+      length-append (codes ".nlvol-kept-") (decimal number),
+      length-take cut name,
+      length-decimal-le 20 number (omega arith) (omega arith) (omega arith),
+    )

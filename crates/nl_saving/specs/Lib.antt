@@ -3,3 +3,4 @@ pub mod FilesFound
 pub mod SideNames
 pub mod Extents
 pub mod SparseFiles
+pub mod Marks

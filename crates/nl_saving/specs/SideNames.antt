@@ -2,17 +2,23 @@
 use Rattle.std.specs.Prelude.{◌≡◌, ◌<◌, ◌≤◌, ◌++◌, ℕ, Bool, true, false, List, codes, take, IsCharBoundary}
 use Rattle.std.specs.Fmt.{decimal}
 
--- the last place within 240 bytes that divides no character, or the end
-pub record IsCut (name : List ℕ) (cut : ℕ) : Type 0 where
-  pub within : cut ≤ 240
+-- the last place within so many bytes that divides no character, or the end
+pub record IsCut (most : ℕ) (name : List ℕ) (cut : ℕ) : Type 0 where
+  pub within : cut ≤ most
   pub boundary : IsCharBoundary name cut
-  pub last : (i : ℕ) → cut < i → i ≤ 240 → IsCharBoundary name i → ⊥
+  pub last : (i : ℕ) → cut < i → i ≤ most → IsCharBoundary name i → ⊥
 
 -- a dot, the name up to there, `.nlvol-save-` and a number
 pub record IsSideName (name : List ℕ) (number : ℕ) (side : List ℕ) : Type 0 where
   pub cut : ℕ
-  pub is_cut : IsCut name cut
+  pub is_cut : IsCut 240 name cut
   pub side_is : side ≡ codes "." ++ (take cut name ++ (codes ".nlvol-save-" ++ decimal number))
+
+-- the same of a file that is kept
+pub record IsKeptName (name : List ℕ) (number : ℕ) (kept : List ℕ) : Type 0 where
+  pub cut : ℕ
+  pub is_cut : IsCut 222 name cut
+  pub kept_is : kept ≡ codes "." ++ (take cut name ++ (codes ".nlvol-kept-" ++ decimal number))
 
 -- the bits of a mode that a new file has too: with another owner it isn't run as that one, and another group
 -- may do nothing with it

@@ -19,7 +19,7 @@ pub enum FileFault {
 }
 
 /// A read that fails for want of memory isn't the file's fault.
-fn read_fault(error: &io::Error) -> FileFault
+pub(crate) fn read_fault(error: &io::Error) -> FileFault
     ensures { (result ≡ FileFault.Unread) ⊎ (result ≡ FileFault.Refused VolError.Memory) }
 {
     if error.kind() == ErrorKind::OutOfMemory {

@@ -1,13 +1,15 @@
 //! Files that are written whole, and not over what another program put there meanwhile.
 ghost use Rattle.std.specs.Prelude.{◌≡◌, IfOk};
 
+use crate::keeping::put_aside;
+use crate::putting::fill_and_put;
 use crate::sides::Side;
-use crate::standing::{Found, behind_links, found_at, found_of, state_of, told_at};
+use crate::standing::{Found, behind_links, found_at, found_of, state_of, sync_folder, told_at};
 use std::fs::{File, Metadata, OpenFile, OpenOptions, TryLockError};
 use std::io::{ErrorKind, Write};
 use std::path::{Path, PathBuf};
 use std::rt::Files;
-use std::{fs, io, str};
+use std::{io, str};
 
 /// How often a file is opened to be locked, if another one takes its place each time.
 const TRIES: usize = 100;
@@ -23,9 +25,9 @@ pub struct SavePlace<'a> {
     /// The path as it was given. Its links are followed.
     pub path: &'a [u8],
     /// What stood there; none if that couldn't be told.
-    found: Option<Found>,
+    pub(crate) found: Option<Found>,
     /// Holds the lock until the place is dropped.
-    locked: Option<File>,
+    pub(crate) locked: Option<File>,
 }
 
 /// What became of bytes that were to be in a file.
@@ -55,7 +57,7 @@ fn open_to<R: Files<File = File>>(
 /// A file that is there, open to be locked; none where it can't be opened. Network file systems lock only
 /// what is open to be written. If a pipe came to stand there just now, one that may be read and written is
 /// opened at once; else its other end is awaited.
-fn open_old<R: Files<File = File>>(files: &R, path: &str) -> Option<File> {
+pub(crate) fn open_old<R: Files<File = File>>(files: &R, path: &str) -> Option<File> {
     if let Some(file) = open_to(files, path, true, true) {
         return Some(file);
     }
@@ -172,49 +174,6 @@ fn write_into<R: Files<File = File>>(files: &R, path: &str, bytes: &[u8]) -> io:
     file.write_all(bytes)
 }
 
-/// Gives a new file the name of one that wasn't there. Returns whether it has it; another one of that name is
-/// never replaced, where the system has hard links.
-fn put_new<R: Files>(files: &R, side: Path<'_>, target: Path<'_>) -> io::Result<bool> {
-    match fs::hard_link(files, side, target) {
-        Ok(()) => {
-            // A name that stays is one more of the same file.
-            let _ = fs::remove_file(files, side);
-            Ok(true)
-        }
-        Err(error) if error.kind() == ErrorKind::AlreadyExists => Ok(false),
-        Err(_) => put_over(files, side, target, Found::Nothing),
-    }
-}
-
-/// Puts a new file in the place of what was found, if that still stands there. Returns whether it did.
-fn put_over<R: Files>(
-    files: &R,
-    side: Path<'_>,
-    target: Path<'_>,
-    found: Found,
-) -> io::Result<bool> {
-    let told = told_at(files, target)?;
-    if found_of(told.as_ref()) != found {
-        return Ok(false);
-    }
-    fs::rename(files, side, target)?;
-    Ok(true)
-}
-
-/// Puts a new file at a path where this was found at the start. Returns whether it did.
-fn put<R: Files>(
-    files: &R,
-    side: Path<'_>,
-    target: Path<'_>,
-    found: Option<Found>,
-) -> io::Result<bool> {
-    match found {
-        Some(Found::Nothing) => put_new(files, side, target),
-        Some(Found::Regular(state)) => put_over(files, side, target, Found::Regular(state)),
-        Some(Found::Other) | None => Ok(false),
-    }
-}
-
 /// What is told of an old file that may be replaced: a regular one as it was found.
 fn old_file(told: Option<Metadata>, found: Option<Found>) -> Option<Metadata> {
     match found {
@@ -223,28 +182,21 @@ fn old_file(told: Option<Metadata>, found: Option<Found>) -> Option<Metadata> {
     }
 }
 
-/// Fills a new file, and puts it at a path where this was found at the start. Returns whether it did.
-fn fill_and_put<R: Files>(
-    files: &R,
-    side: &mut Side,
-    target: Path<'_>,
-    old: Option<&Metadata>,
-    found: Option<Found>,
-    bytes: &[u8],
-) -> io::Result<bool> {
-    side.fill(old, bytes)?;
-    put(files, side.path.as_path(), target, found)
-}
-
 impl SavePlace<'_> {
     /// Keeps the lock of a new file that was put in its place. Another one is kept beside it.
-    fn keep(&mut self, side: Side, is_put: bool) -> Saved {
+    fn keep<R: AllocGlobal + Files>(
+        &mut self,
+        rt: &R,
+        target: Path<'_>,
+        side: Side,
+        is_put: bool,
+    ) -> Saved {
         if is_put {
             self.locked = Some(side.file);
             return Saved::There;
         }
         side.shut();
-        Saved::Beside(side.path)
+        Saved::Beside(put_aside(rt, side, target))
     }
 
     /// Writes a new file beside the old one, and then puts it there.
@@ -255,11 +207,14 @@ impl SavePlace<'_> {
         bytes: &[u8],
     ) -> io::Result<Saved> {
         let told = told_at(rt, target)?;
-        let is_new = told.is_none() && self.found == Some(Found::Nothing);
         let old = old_file(told, self.found);
-        let mut side = Side::create(rt, target, !is_new)?;
+        let mut side = Side::create(rt, target)?;
         match fill_and_put(rt, &mut side, target, old.as_ref(), self.found, bytes) {
-            Ok(is_put) => Ok(self.keep(side, is_put)),
+            Ok(is_put) => {
+                let saved = self.keep(rt, target, side, is_put);
+                sync_folder(rt, target);
+                Ok(saved)
+            }
             Err(error) => {
                 side.remove(rt);
                 Err(error)
@@ -268,9 +223,9 @@ impl SavePlace<'_> {
     }
 
     /// Writes the file, if what stands there is what stood there at the start. It is replaced whole or not at
-    /// all: a new one is written beside it, and renamed once all is stored. It has the old one's owner and
-    /// group where the system lets them be given, and its mode. What is no regular file, such as a device, is
-    /// written to as it is.
+    /// all: a new one is written beside it, and renamed once all is stored; then the folder is stored. It has the
+    /// old one's owner and group where the system lets them be given, and its mode; where there is no old one,
+    /// its owner alone may read and write it. What is no regular file, such as a device, is written to as it is.
     ///
     /// # Errors
     /// Those of the system, and `AlreadyExists` where no name is free for the new file. The file is as it was

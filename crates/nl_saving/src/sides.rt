@@ -3,8 +3,9 @@ ghost use Rattle.std.specs.Prelude.{◌≡◌, ◌<◌, ◌≤◌, IfOk, length,
 ghost use Rattle.nl_saving.specs.SideNames.{IsSideName, kept_bits};
 
 use crate::sparse::write_sparse;
+use crate::standing::stands_at;
 use std::alloc::{AllocError, Global};
-use std::fs::{File, Metadata, OpenOptions};
+use std::fs::{File, Metadata, OpenOptions, TryLockError};
 use std::io::ErrorKind;
 use std::os::unix::fs::{MetadataExt, OpenOptionsExt, PermissionsExt, fchown};
 use std::path::{Path, PathBuf};
@@ -12,17 +13,14 @@ use std::rt::Files;
 use std::{fs, io};
 
 /// How many names a new file may have.
-const NAMES: u8 = 100;
+pub const NAMES: u8 = 100;
 
 /// How much of the old file's name a new one's has at most. With what stands around it that is 255 bytes, the
 /// longest name of Linux: a dot, `.nlvol-save-` and two digits.
 const MOST_BYTES: usize = 240;
 
-/// Who may do what with a new file until it has the old one's mode: its owner may read and write it.
+/// Who may do what with a new file, until it has an old one's mode: its owner may read and write it.
 const OWNER_ALONE: u32 = 0o600;
-
-/// Who may do so with a new file that has no old one: anybody whom the umask leaves.
-const ANYBODY: u32 = 0o666;
 
 /// The name of a new file beside the one of this name, which is cut where it is long.
 pub fn side_name(alloc: Global, name: &str, number: u8) -> Result<String, AllocError>
@@ -33,7 +31,7 @@ pub fn side_name(alloc: Global, name: &str, number: u8) -> Result<String, AllocE
     format!(in alloc; ".{begin}.nlvol-save-{number}")
 }
 
-/// A new file, and its path. It is locked where the system has locks.
+/// A new file, and its path. It is locked where the system has locks, and its path leads to it then.
 #[derive(Drop)]
 pub struct Side {
     pub file: File,
@@ -41,11 +39,11 @@ pub struct Side {
 }
 
 /// Opens a file that nobody has made yet, nor put a link there.
-fn create_new<R: Files<File = File>>(files: &R, path: Path<'_>, mode: u32) -> io::Result<File> {
+fn create_new<R: Files<File = File>>(files: &R, path: Path<'_>) -> io::Result<File> {
     let mut how = OpenOptions::new();
     let _ = how.write(true);
     let _ = how.create_new(true);
-    let _ = how.mode(mode);
+    let _ = how.mode(OWNER_ALONE);
     how.open(files, path)
 }
 
@@ -56,14 +54,33 @@ fn side_path(alloc: Global, target: Path<'_>, name: &str, number: u8) -> io::Res
     Ok(path)
 }
 
+/// A new file that is locked, if its path still leads to it: who removes files that saves left may have taken it
+/// for one of these just before.
+fn if_named<R: Files>(files: &R, side: Side) -> io::Result<Option<Side>> {
+    match stands_at(files, side.path.as_path(), &side.file) {
+        Ok(true) => Ok(Some(side)),
+        Ok(false) => Ok(None),
+        Err(error) => {
+            side.remove(files);
+            Err(error)
+        }
+    }
+}
+
+/// Locks a new file. None where it isn't to be used, since another program has it.
+fn if_locked<R: Files>(files: &R, side: Side) -> io::Result<Option<Side>> {
+    match side.file.try_lock() {
+        Ok(()) => if_named(files, side),
+        Err(TryLockError::WouldBlock) => Ok(None),
+        // Where there are no locks it has none, and nobody removes it.
+        Err(TryLockError::Error(_)) => Ok(Some(side)),
+    }
+}
+
 /// Makes a new file at a path, unless the path is taken.
-fn create_at<R: Files<File = File>>(
-    files: &R,
-    path: PathBuf,
-    mode: u32,
-) -> io::Result<Option<Side>> {
-    match create_new(files, path.as_path(), mode) {
-        Ok(file) => Ok(Some(Side { file, path })),
+fn create_at<R: Files<File = File>>(files: &R, path: PathBuf) -> io::Result<Option<Side>> {
+    match create_new(files, path.as_path()) {
+        Ok(file) => if_locked(files, Side { file, path }),
         Err(error) if error.kind() == ErrorKind::AlreadyExists => Ok(None),
         Err(error) => Err(error),
     }
@@ -74,14 +91,13 @@ fn create_at<R: Files<File = File>>(
 fn create_beside<R: AllocGlobal + Files<File = File>>(
     rt: &R,
     target: Path<'_>,
-    mode: u32,
 ) -> io::Result<Side> {
     let Some(name) = target.file_name() else {
         return Err(io::Error::from(ErrorKind::InvalidInput));
     };
     for number in 0..NAMES {
         let path = side_path(rt.alloc(), target, name, number)?;
-        if let Some(side) = create_at(rt, path, mode)? {
+        if let Some(side) = create_at(rt, path)? {
             return Ok(side);
         }
     }
@@ -102,17 +118,12 @@ fn kept_bits(has_owner: bool, has_group: bool) -> u32
 }
 
 impl Side {
-    /// Makes a new file beside a path. With an old file it may be used by its owner alone, until it gets that
-    /// one's mode; else as any new file.
+    /// Makes a new file beside a path, which its owner alone may use.
     pub fn create<R: AllocGlobal + Files<File = File>>(
         rt: &R,
         target: Path<'_>,
-        is_alone: bool,
     ) -> io::Result<Side> {
-        let side = create_beside(rt, target, if is_alone { OWNER_ALONE } else { ANYBODY })?;
-        // Where there are no locks it has none.
-        let _ = side.file.try_lock();
-        Ok(side)
+        create_beside(rt, target)
     }
 
     /// Gives it the owner, the group and the mode of an old file. The owner and the group stay as they are

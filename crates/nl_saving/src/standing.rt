@@ -3,7 +3,7 @@ ghost use Rattle.std.specs.Prelude.{◌≡◌, ◌↔◌, IsTrue, option_map};
 ghost use Rattle.std.specs.Fs.{metadata_len};
 ghost use Rattle.nl_saving.specs.FilesFound.{AreOneFile, IsFoundOf};
 
-use std::fs::Metadata;
+use std::fs::{File, Metadata, OpenFile};
 use std::io::ErrorKind;
 use std::os::unix::fs::MetadataExt;
 use std::path::{Path, PathBuf};
@@ -89,6 +89,28 @@ pub fn found_at<R: Files>(files: &R, path: &str) -> io::Result<Found> {
 /// What is told of what stands at a path itself, a link too.
 pub fn told_at<R: Files>(files: &R, path: Path<'_>) -> io::Result<Option<Metadata>> {
     unless_absent(fs::symlink_metadata(files, path))
+}
+
+/// Whether an open file stands at a path itself: no link leads there.
+pub fn stands_at<R: Files>(files: &R, path: Path<'_>, file: &File) -> io::Result<bool> {
+    let told = told_at(files, path)?;
+    let open = file.metadata()?;
+    match (found_of(told.as_ref()), found_of(Some(&open))) {
+        (Found::Regular(there), Found::Regular(state)) => Ok(there.is_same_file(state)),
+        _ => Ok(false),
+    }
+}
+
+/// Stores the folder of a path, so that a name that was given in it stays when the power fails. One that can't be
+/// stored is no fault.
+pub fn sync_folder<R: Files>(files: &R, path: Path<'_>) {
+    let folder = match path.parent() {
+        Some(folder) if !folder.as_str().is_empty() => folder,
+        _ => Path::new("."),
+    };
+    if let Ok(folder) = fs::open(files, folder) {
+        let _ = folder.sync_all();
+    }
 }
 
 /// Whether a link stands at a path.
