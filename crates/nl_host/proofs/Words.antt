@@ -64,11 +64,10 @@ nothing_is [] = refl
 nothing_is (c ∷ text) =
     sym (not_true (length (c ∷ text) == 0) (λ none. omega (arith, eqb-true (length (c ∷ text)) 0 none)))
 
--- where nothing is, there is no number
-pub begun-none : (name text : List ℕ) → length text ≡ 0 → is_begun name text ≡ false
-begun-none [] [] none = refl
-begun-none (c ∷ name) [] none = refl
-begun-none [] (d ∷ text) none = absurd (omega arith)
-begun-none (c ∷ name) (d ∷ text) none = absurd (omega arith)
+-- where nothing is, there is no beginning
+pub begun-none : (begin text : List ℕ) → 1 ≤ length begin → length text ≡ 0 → is_begun begin text ≡ false
+begun-none [] text some none = absurd (omega arith)
+begun-none (c ∷ begin) [] some none = refl
+begun-none (c ∷ begin) (d ∷ text) some none = absurd (omega arith)
 
 pub ruleset ends = begun-none

@@ -1,3 +1,4 @@
 pub mod Patterns
 pub mod Selections
 pub mod HostPaths
+pub mod Identities

@@ -1,13 +1,10 @@
 //! Attributes of the host's files: as the system tells them, and set.
-use crate::host_paths::{host_path, text_of};
-use crate::left_out::{LeftOut, Reason};
-use nl_folders::Path;
-use nl_manifests::{Attributes, HostEntry, HostObject, Time};
-use std::fs::{FileTimes, Metadata, OpenFile, Permissions};
-use std::os::unix::fs::{MetadataExt, PermissionsExt, lchown};
+use crate::left_out::Reason;
+use nl_manifests::{Attributes, Time};
+use std::fs::{File, FileTimes, Metadata, Permissions};
+use std::os::unix::fs::{MetadataExt, PermissionsExt, fchown, lchown};
 use std::rt::Files;
 use std::time::{Duration, SystemTime, UNIX_EPOCH};
-use std::{fs, io};
 
 /// The bits of a mode that chmod(2) sets.
 const MODE_BITS: u32 = 0o7777;
@@ -40,16 +37,8 @@ fn system_time(time: Time) -> Option<SystemTime> {
     UNIX_EPOCH.checked_add(since)
 }
 
-/// Sets the time and the mode of a directory or a file. What can't be set is answered.
-fn set_inner<R: Files>(
-    files: &R,
-    place: &str,
-    attributes: Attributes,
-    bits: u32,
-) -> Option<Reason> {
-    let Ok(file) = fs::open(files, place) else {
-        return Some(Reason::Mode);
-    };
+/// Sets the time and the mode of an open directory or file. What can't be set is answered.
+fn set_inner(file: &File, attributes: Attributes, bits: u32) -> Option<Reason> {
     let mode = u32::from(attributes.mode) & bits;
     let is_timed = match system_time(attributes.time) {
         Some(time) => file.set_times(FileTimes::new().set_modified(time)).is_ok(),
@@ -61,23 +50,26 @@ fn set_inner<R: Files>(
     if is_timed { None } else { Some(Reason::Time) }
 }
 
-/// Sets the owners of what stands at a path of the host, and answers whether it did.
-fn set_owners<R: Files>(files: &R, place: &str, attributes: Attributes) -> bool {
-    let owner = Some(attributes.owner);
-    lchown(files, place, owner, Some(attributes.group)).is_ok()
+/// Whether the system has such owners. The greatest number stands for none: it would leave what is there.
+fn are_owners(attributes: Attributes) -> bool {
+    attributes.owner != u32::MAX && attributes.group != u32::MAX
 }
 
-/// Sets the attributes of a directory or a file. Owners come first, since with them the system takes bits of the
-/// mode away; where they aren't set, no other is to act as them. What can't be set is answered.
-fn set_all<R: Files>(
-    files: &R,
-    place: &str,
+/// Sets the owners of an open directory or file, and answers whether it did.
+fn set_owners(file: &File, attributes: Attributes) -> bool {
+    are_owners(attributes) && fchown(file, Some(attributes.owner), Some(attributes.group)).is_ok()
+}
+
+/// Sets the attributes of an open directory or file. Owners come first, since with them the system takes bits of
+/// the mode away; where they aren't set, no other is to act as them. What can't be set is answered.
+pub(crate) fn set_attributes(
+    file: &File,
     attributes: Attributes,
     with_owners: bool,
 ) -> Option<Reason> {
-    let is_owned = with_owners && set_owners(files, place, attributes);
+    let is_owned = with_owners && set_owners(file, attributes);
     let bits = if is_owned { MODE_BITS } else { PLAIN_BITS };
-    let reason = set_inner(files, place, attributes, bits);
+    let reason = set_inner(file, attributes, bits);
     if with_owners && !is_owned {
         Some(Reason::Owners)
     } else {
@@ -85,60 +77,16 @@ fn set_all<R: Files>(
     }
 }
 
-/// Sets the owners of a link, which has no mode of its own, and whose time std can't set. One that was left out
-/// has none.
-fn set_link<R: Files>(
+/// Sets the owners of a link at a path of the host. What can't be set is answered.
+pub(crate) fn set_link_owners<R: Files>(
     files: &R,
     place: &str,
-    target: &[u8],
     attributes: Attributes,
 ) -> Option<Reason> {
-    if text_of(target).is_none() || set_owners(files, place, attributes) {
+    let (owner, group) = (Some(attributes.owner), Some(attributes.group));
+    if are_owners(attributes) && lchown(files, place, owner, group).is_ok() {
         None
     } else {
         Some(Reason::Owners)
     }
-}
-
-/// Sets the attributes of what stands at a path of the host. What can't be set is answered.
-fn set_one<R: Files>(
-    files: &R,
-    place: &str,
-    entry: &HostEntry,
-    with_owners: bool,
-) -> Option<Reason> {
-    let attributes = entry.attributes?;
-    match &entry.object {
-        HostObject::Link(target) if with_owners => {
-            set_link(files, place, target.as_slice(), attributes)
-        }
-        HostObject::Link(_) => None,
-        _ => set_all(files, place, attributes, with_owners),
-    }
-}
-
-/// Sets the attributes of a tree that was laid out in a folder, the last paths first: so a directory gets its
-/// time behind all that is in it. What can't be set is noted. What was left out before has none.
-///
-/// # Errors
-/// Memory.
-pub fn set_attributes<R: AllocGlobal + Files>(
-    rt: &R,
-    folder: &str,
-    entries: &[(Path, HostEntry)],
-    with_owners: bool,
-    left_out: &mut Vec<LeftOut>,
-) -> io::Result<()> {
-    for entry in entries.iter().rev() {
-        let (place, count) = host_path(rt.alloc(), folder, entry.0.as_slice())?;
-        if count == entry.0.len() {
-            if let Some(reason) = set_one(rt, place.as_str(), &entry.1, with_owners) {
-                left_out.push(LeftOut {
-                    path: place,
-                    reason,
-                })?;
-            }
-        }
-    }
-    Ok(())
 }

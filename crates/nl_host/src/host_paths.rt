@@ -20,7 +20,7 @@ pub(crate) fn text_of(bytes: &[u8]) -> Option<&str>
 }
 
 /// A name as text, where a path of the host may have it.
-fn name_text(name: &[u8]) -> Option<&str>
+pub(crate) fn name_text(name: &[u8]) -> Option<&str>
     ensures may { is_some result ≡ is_host_name name.now }
     ensures text { IfSome result (λ text. text.now ≡ name.now) }
 {

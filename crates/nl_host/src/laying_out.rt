@@ -7,44 +7,16 @@ ghost use Rattle.nl_host.specs.declared.left_out.Reason.TheVariants.{NameNoText,
 
 use crate::host_paths::{host_path, text_of};
 use crate::left_out::{LeftOut, Reason};
+use crate::putting::{Manner, Putting};
+use crate::refusals::Laid;
 use nl_folders::{Name, Path};
 use nl_manifests::{HostEntry, HostObject};
-use std::fs::{DirBuilder, OpenOptions};
-use std::io::{self, Write};
-use std::os::unix::fs::{DirBuilderExt, OpenOptionsExt, symlink};
+use std::alloc::Global;
+use std::fs::File;
+use std::io;
 use std::rt::Files;
 
-// ---- directories and files
-
-/// A new directory. One whose mode is set later is its owner's alone until then.
-fn put_directory<R: Files>(files: &R, path: &str, is_private: bool) -> io::Result<()> {
-    let mut how = DirBuilder::new();
-    if is_private {
-        let _ = how.mode(0o700);
-    }
-    how.create(files, path)
-}
-
-/// A new file of these bytes. What stands at the path, a link too, is neither written to nor replaced.
-fn put_file<R: Files>(files: &R, path: &str, bytes: &[u8], is_private: bool) -> io::Result<()> {
-    let mut how = OpenOptions::new();
-    let _ = how.write(true);
-    let _ = how.create_new(true);
-    if is_private {
-        let _ = how.mode(0o600);
-    }
-    let mut file = how.open(files, path)?;
-    file.write_all(bytes)
-}
-
-fn put<R: Files>(files: &R, path: &str, entry: &HostEntry) -> io::Result<()> {
-    let is_private = entry.attributes.is_some();
-    match &entry.object {
-        HostObject::Directory => put_directory(files, path, is_private),
-        HostObject::File(bytes) => put_file(files, path, bytes.as_slice(), is_private),
-        HostObject::Link(_) => Ok(()),
-    }
-}
+// ---- what no path of the host may have
 
 /// Notes what is left out at a path of the host, if it is.
 fn note(
@@ -82,9 +54,9 @@ fn note_name(
     )
 }
 
-/// Makes a directory or a file at its path in a folder, or leaves it out where a name of it may not stand there.
-fn lay_out_object<R: AllocGlobal + Files>(
-    rt: &R,
+/// Notes a directory or a file of which a name may not stand on the host.
+fn note_object(
+    alloc: Global,
     folder: &str,
     path: &[Name],
     entry: &HostEntry,
@@ -96,18 +68,15 @@ fn lay_out_object<R: AllocGlobal + Files>(
     if matches!(entry.object, HostObject::Link(_)) {
         return Ok(());
     }
-    let (place, count) = host_path(rt.alloc(), folder, path)?;
+    let (place, count) = host_path(alloc, folder, path)?;
     if count < path.len() {
         return note_name(place, path, count, left_out);
-    }
-    if count > 0 {
-        put(rt, place.as_str(), entry)?;
     }
     Ok(())
 }
 
-fn lay_out_objects<R: AllocGlobal + Files>(
-    rt: &R,
+fn note_objects(
+    alloc: Global,
     folder: &str,
     entries: &[(Path, HostEntry)],
     left_out: &mut Vec<LeftOut>,
@@ -117,33 +86,28 @@ fn lay_out_objects<R: AllocGlobal + Files>(
         ++ flat_map (λ e. object_left_out folder.now e.0 e.1.object) entries.now) }
 {
     for entry in entries {
-        lay_out_object(rt, folder, entry.0.as_slice(), &entry.1, left_out)?;
+        note_object(alloc, folder, entry.0.as_slice(), &entry.1, left_out)?;
     }
     Ok(())
 }
 
 // ---- links
 
-/// Makes a link, or leaves it out where its target is no text.
-fn put_link<R: Files>(
-    files: &R,
-    place: String,
-    target: &[u8],
-    left_out: &mut Vec<LeftOut>,
-) -> io::Result<()>
+/// Notes a link whose target is no text.
+fn note_target(place: String, target: &[u8], left_out: &mut Vec<LeftOut>) -> io::Result<()>
     ensures { OnOk result (map told_of left_out.new.items
         ≡ map told_of left_out.old.items
         ++ told_if (not (is_utf8 target.now)) (string_bytes place, TargetNoText)) }
 {
     match text_of(target) {
         None => note(place, Reason::TargetNoText, true, left_out),
-        Some(target) => symlink(files, target, place.as_str()),
+        Some(_) => Ok(()),
     }
 }
 
-/// Makes a link at its path in a folder, or leaves it out where a name of it may not stand there.
-fn lay_out_link<R: AllocGlobal + Files>(
-    rt: &R,
+/// Notes a link of which a name may not stand on the host, or whose target is no text.
+fn note_link(
+    alloc: Global,
     folder: &str,
     path: &[Name],
     target: &[u8],
@@ -152,15 +116,15 @@ fn lay_out_link<R: AllocGlobal + Files>(
     ensures { OnOk result (map told_of left_out.new.items
         ≡ map told_of left_out.old.items ++ target_left_out folder.now path.now target.now) }
 {
-    let (place, count) = host_path(rt.alloc(), folder, path)?;
+    let (place, count) = host_path(alloc, folder, path)?;
     if count < path.len() {
         return note_name(place, path, count, left_out);
     }
-    put_link(rt, place, target, left_out)
+    note_target(place, target, left_out)
 }
 
-fn lay_out_if_link<R: AllocGlobal + Files>(
-    rt: &R,
+fn note_if_link(
+    alloc: Global,
     folder: &str,
     path: &[Name],
     object: &HostObject,
@@ -172,12 +136,12 @@ fn lay_out_if_link<R: AllocGlobal + Files>(
     match object {
         HostObject::Directory => Ok(()),
         HostObject::File(_) => Ok(()),
-        HostObject::Link(target) => lay_out_link(rt, folder, path, target.as_slice(), left_out),
+        HostObject::Link(target) => note_link(alloc, folder, path, target.as_slice(), left_out),
     }
 }
 
-fn lay_out_links<R: AllocGlobal + Files>(
-    rt: &R,
+fn note_links(
+    alloc: Global,
     folder: &str,
     entries: &[(Path, HostEntry)],
     left_out: &mut Vec<LeftOut>,
@@ -187,31 +151,52 @@ fn lay_out_links<R: AllocGlobal + Files>(
         ++ flat_map (λ e. link_left_out folder.now e.0 e.1.object) entries.now) }
 {
     for entry in entries {
-        lay_out_if_link(rt, folder, entry.0.as_slice(), &entry.1.object, left_out)?;
+        note_if_link(alloc, folder, entry.0.as_slice(), &entry.1.object, left_out)?;
     }
     Ok(())
 }
 
 // ---- all of it
 
-/// Lays a tree out in a folder that is there and empty: directories and files first, links then. The tree's
-/// root is that folder. Nothing outside of it is written: each path has the folder's in front and then names
-/// that may stand in a path, each directory, file and link is made anew, and no link is followed below the
-/// folder, as there is none before all else is there. What has attributes is its owner's alone until they are
-/// set. An entry of which a name isn't UTF-8 is left out, and noted by the folder of that name; so is a link
-/// whose target isn't, by its path.
-///
-/// # Errors
-/// Those of the system. What was laid out before stays.
-pub fn lay_out<R: AllocGlobal + Files>(
+/// Makes what may stand on the host, and sets its attributes, also where that ends amid.
+fn put_all<R: AllocGlobal + Files<File = File>>(
     rt: &R,
     folder: &str,
     entries: &[(Path, HostEntry)],
+    manner: Manner,
+    laid: &mut Laid,
+) -> io::Result<()> {
+    // A link to the folder itself is followed.
+    let root = format!(in rt.alloc(); "{folder}/.")?;
+    let mut putting = Putting::new(rt, root.as_str(), folder, manner)?;
+    let put = putting.lay_all(entries, laid);
+    let left = putting.leave_all(laid);
+    put?;
+    left
+}
+
+/// Lays a tree out in a folder that is there and empty, in the order of the paths. The tree's root is that folder.
+/// Nothing outside of it is written, and no link below it is followed: each folder is made anew and then opened
+/// from the one above it, each file and link is made anew in an open folder, and what is made gets its attributes
+/// by the handle that it was made or opened with. What has attributes is its owner's alone until they are set. An
+/// entry of which a name isn't UTF-8 is left out, and noted by the folder of that name; so is a link whose target
+/// isn't, by its path. What the system refuses of one entry alone is noted too, by `laid`.
+///
+/// # Errors
+/// Those by which the system would refuse each further file. What was laid out before stays, and has its
+/// attributes.
+pub fn lay_out<R: AllocGlobal + Files<File = File>>(
+    rt: &R,
+    folder: &str,
+    entries: &[(Path, HostEntry)],
+    manner: Manner,
+    laid: &mut Laid,
     left_out: &mut Vec<LeftOut>,
 ) -> io::Result<()>
     ensures { OnOk result (map told_of left_out.new.items
         ≡ map told_of left_out.old.items ++ all_left_out folder.now entries.now) }
 {
-    lay_out_objects(rt, folder, entries, left_out)?;
-    lay_out_links(rt, folder, entries, left_out)
+    note_objects(rt.alloc(), folder, entries, left_out)?;
+    note_links(rt.alloc(), folder, entries, left_out)?;
+    put_all(rt, folder, entries, manner, laid)
 }

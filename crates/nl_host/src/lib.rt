@@ -4,16 +4,22 @@
 mod attributes;
 mod host_folder;
 mod host_paths;
+mod identity;
 mod laying_out;
 mod left_out;
+mod open_folders;
 mod patterns;
+mod putting;
 mod reading;
+mod refusals;
 mod selection;
 
-pub use attributes::set_attributes;
 pub use host_folder::HostFolder;
+pub use identity::Identity;
 pub use laying_out::lay_out;
 pub use left_out::{LeftOut, Reason, TooBig};
 pub use patterns::{Pattern, matches};
+pub use putting::Manner;
 pub use reading::{Watching, read_folder};
-pub use selection::Selection;
+pub use refusals::{Laid, Refused};
+pub use selection::{Selection, is_side_name};
