@@ -3,6 +3,7 @@
 #![tactic(auto)]
 
 mod culprits;
+mod doubts;
 mod later;
 pub mod laws;
 mod leading;
@@ -17,6 +18,7 @@ mod tables;
 mod unsound;
 
 pub use culprits::Culprit;
+pub use doubts::{Doubt, Doubts};
 pub use later::{Finding, Judged};
 pub use leading::path_of;
 pub use pages::ImagePages;

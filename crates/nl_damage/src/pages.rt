@@ -93,6 +93,14 @@ fn told_of(sections: &Sections<'_>, number: usize) -> Option<(u64, Period)>
     told_by(sections.number(number)?)
 }
 
+/// The block that the table has for a number. None where there is no entry, or it is of no number in use.
+pub(crate) fn block_of(sections: &Sections<'_>, number: usize) -> Option<usize> {
+    match told_of(sections, number) {
+        Some((block, _)) => Some(block as usize),
+        None => None,
+    }
+}
+
 /// What a number stands for. None where the image has no entry or no block of it.
 fn read_numbered(
     alloc: Global,
@@ -130,6 +138,35 @@ impl ImagePages {
         ensures { (v : ℕ) → IsSome (numbered_at self.now v) → v ≤ result }
     {
         (self.table.len() as u64).saturating_sub(1)
+    }
+
+    /// What a number stands for that isn't left out.
+    fn shared(&self, number: usize, is_left_out: &[bool]) -> Result<Option<Numbered>, AllocError> {
+        if is_left_out.get(number) == Some(&true) {
+            return Ok(None);
+        }
+        match self.table.as_slice().get(number) {
+            Some(Some(numbered)) => Ok(Some(Numbered {
+                page: numbered.page.share()?,
+                period: numbered.period,
+            })),
+            _ => Ok(None),
+        }
+    }
+
+    /// The same pages without those of the numbers that are left out. Refused by want of memory.
+    pub(crate) fn without(
+        &self,
+        alloc: Global,
+        is_left_out: &[bool],
+    ) -> Result<ImagePages, AllocError> {
+        let mut table = Vec::with_capacity(alloc, self.table.len())?;
+        for number in 0..self.table.len() {
+            table.push(self.shared(number, is_left_out)?)?;
+        }
+        Ok(ImagePages {
+            table: Items::from_vec(table),
+        })
     }
 
     fn at(&self, number: VirtualNumber) -> Option<&Numbered>

@@ -287,7 +287,7 @@ impl<'a> Walk<'a> {
 }
 
 /// Whether the name of a record is before that of another one, if there is one.
-fn is_before(record: &Record, later: Option<&Record>) -> bool {
+pub(crate) fn is_before(record: &Record, later: Option<&Record>) -> bool {
     match later {
         Some(later) => record.name.as_slice().cmp(&later.name.as_slice()).is_lt(),
         None => true,

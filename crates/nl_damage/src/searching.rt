@@ -48,24 +48,33 @@ fn entry_in(page: &Page, place: usize) -> Option<InodeEntry> {
     InodeEntry::read(page.bytes().as_slice().get(start..end)?)
 }
 
+/// A table for each number that has a page.
+pub(crate) fn nothing_met(alloc: Global, pages: &ImagePages) -> Result<Met, VolError> {
+    let last = pages.last();
+    if last > u64::from(VOLUME_BLOCK_LIMIT) {
+        return Err(VolError::Fault);
+    }
+    Met::none(alloc, last)
+}
+
+/// How many indices lead up to the last block of a file, whose numbers are met. None where it has not its
+/// shape, or one of its numbers isn't in use or was met before.
+pub(crate) fn count_met(pages: &ImagePages, met: &mut Met, root: Root) -> Option<u64> {
+    let count = met.len() as u64;
+    if count <= pages.last() || count > u64::from(VOLUME_BLOCK_LIMIT) + 1 {
+        return None;
+    }
+    walk(pages, met, root).ok()
+}
+
 impl CheckpointFiles<'_> {
     /// A table for each number that has a page.
     pub(crate) fn nothing_met(&self) -> Result<Met, VolError> {
-        let last = self.pages.last();
-        if last > u64::from(VOLUME_BLOCK_LIMIT) {
-            return Err(VolError::Fault);
-        }
-        Met::none(self.alloc, last)
+        nothing_met(self.alloc, self.pages)
     }
 
-    /// How many indices lead up to the last block of a file, whose numbers are met. None where it has not its
-    /// shape, or one of its numbers isn't in use or was met before.
     fn walked(&self, met: &mut Met, root: Root) -> Option<u64> {
-        let count = met.len() as u64;
-        if count <= self.pages.last() || count > u64::from(VOLUME_BLOCK_LIMIT) + 1 {
-            return None;
-        }
-        walk(self.pages, met, root).ok()
+        count_met(self.pages, met, root)
     }
 
     /// Whether the search ends with an inode: it is there, or the inode's file can't be met.

@@ -38,7 +38,7 @@ fn has_zeros_from(page: &Page, from: usize) -> bool {
 }
 
 /// Whether a file has no more bytes than it may have, no block past its end, and zeros behind it.
-fn is_sound_file(pages: &ImagePages, inode: &Inode, count: u64) -> bool {
+pub(crate) fn is_sound_file(pages: &ImagePages, inode: &Inode, count: u64) -> bool {
     let (end, rest) = (
         inode.size / BLOCK_SIZE as u64,
         inode.size % BLOCK_SIZE as u64,
