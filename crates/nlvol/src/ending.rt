@@ -10,6 +10,7 @@ ghost use Rattle.nlvol.specs.Endings as endings;
 ghost use Rattle.nlvol.specs.Endings.{IsSaveFault, IsSaveRefused, IsSettled, IsTextOf, IsUnsettled, SavesFrom, TellsEnd};
 ghost use Rattle.nlvol.specs.Telling.{Tells, TellsMore, errors_of};
 
+use crate::clearing::clear;
 use crate::telling::{SessionEnd, tell_stream};
 use nl_core::Pen;
 use nl_device::Device;
@@ -18,7 +19,7 @@ use nl_script::texts::{Done, changed_text, save_text, unwritten_text};
 use nl_types::{Event, Mode, Reply, VolError};
 use std::fs::File;
 use std::io;
-use std::io::{ErrorKind, Write};
+use std::io::{Eprint, ErrorKind, Write};
 use std::path::PathBuf;
 use std::rt::Files;
 
@@ -33,7 +34,8 @@ pub enum SaveFault {
     Changed(PathBuf),
 }
 
-/// Makes a plain checkpoint. It stands apart from `checkpoint_if_dirty`, so that no event is alive where that leaves.
+/// Makes a plain checkpoint. It stands apart from `checkpoint_if_dirty`, so that no event is alive where that
+/// leaves.
 fn checkpoint<D: Device>(pen: &mut Pen<D>, moment: u64) -> Reply
     ensures { Does unshared pen.old (event.Checkpoint mode.Plain moment) result pen.new }
 {
@@ -79,14 +81,16 @@ fn write_fault(error: &io::Error) -> SaveFault
     SaveFault::Unwritten
 }
 
-/// Writes an image at a place. It stands apart from `save`, so that no volume is alive where it leaves.
-fn write_image<R: AllocGlobal + Files<File = File>>(
+/// Writes an image at a place, where files of saves that were cut off are removed before. It stands apart
+/// from `save`, so that no volume is alive where it leaves.
+fn write_image<R: AllocGlobal + Files<File = File> + Eprint>(
     rt: &R,
     place: &mut SavePlace<'_>,
     image: &[u8],
 ) -> Result<(), SaveFault>
     ensures { IfErr result (λ fault. (moment : ℕ) (left : Layout) → IsSaveFault moment left fault) }
 {
+    clear(rt, place);
     match place.save(rt, image) {
         Ok(Saved::There) => Ok(()),
         Ok(Saved::Beside(side)) => Err(SaveFault::Changed(side)),
@@ -95,7 +99,7 @@ fn write_image<R: AllocGlobal + Files<File = File>>(
 }
 
 /// Saves the image of what a script left, at a place.
-fn save<R: AllocGlobal + Files<File = File>, D: Device>(
+fn save<R: AllocGlobal + Files<File = File> + Eprint, D: Device>(
     rt: &R,
     place: &mut SavePlace<'_>,
     pen: &mut Pen<D>,
@@ -152,7 +156,7 @@ fn unsaved<E: Write>(
 
 /// Ends a session: tells which stream failed, if one did, and saves what the script left where there is a
 /// place for it. The volume stays with the caller, so that none is alive where this leaves.
-pub fn end<R: AllocGlobal + Files<File = File>, D: Device, E: Write>(
+pub fn end<R: AllocGlobal + Files<File = File> + Eprint, D: Device, E: Write>(
     rt: &R,
     place: Option<SavePlace<'_>>,
     done: Done,

@@ -1,6 +1,7 @@
 //! Runs a script of file calls, checkpoints, mounts and rounds of cleaning on a volume in memory.
 #![tactic(auto)]
 
+mod clearing;
 mod ending;
 mod inputs;
 pub mod laws;
@@ -10,11 +11,12 @@ mod sessions;
 mod starting;
 mod telling;
 
+use nl_saving::StandIns;
 use prompting::{Typed, Watched};
 use sessions::session;
 use std::cell::Cell;
 use std::fs::File;
-use std::io::{BufWriter, ErrorKind, IsTerminal};
+use std::io::{BufWriter, Eprint, ErrorKind, IsTerminal};
 use std::process::ExitCode;
 use std::rt::Files;
 use std::sync::Wait;
@@ -39,7 +41,7 @@ fn arguments<'a>(rt: &HostRuntime, words: &'a [String]) -> io::Result<Vec<&'a st
 }
 
 /// Runs the session of a person who types its lines, and is asked for each.
-fn typed<R: AllocGlobal + Files<File = File> + Threads + Wait + Sync>(
+fn typed<R: AllocGlobal + Files<File = File> + Eprint + Threads + Wait + Sync>(
     rt: &HostRuntime,
     handles: &R,
     arguments: &[&str],
@@ -56,7 +58,7 @@ fn typed<R: AllocGlobal + Files<File = File> + Threads + Wait + Sync>(
 }
 
 /// Runs the session of a script.
-fn piped<R: AllocGlobal + Files<File = File> + Threads + Wait + Sync>(
+fn piped<R: AllocGlobal + Files<File = File> + Eprint + Threads + Wait + Sync>(
     rt: &HostRuntime,
     handles: &R,
     arguments: &[&str],
@@ -68,7 +70,7 @@ fn piped<R: AllocGlobal + Files<File = File> + Threads + Wait + Sync>(
 
 /// Answers the exit status. `handles` is the system too, with what `main` alone may hand on: threads, and
 /// that a call may wait.
-fn run<R: AllocGlobal + Files<File = File> + Threads + Wait + Sync>(
+fn run<R: AllocGlobal + Files<File = File> + Eprint + Threads + Wait + Sync>(
     rt: &HostRuntime,
     handles: &R,
 ) -> io::Result<u8> {
@@ -94,9 +96,14 @@ fn refused(rt: &HostRuntime, error: &io::Error) -> u8 {
 }
 
 fn main(rt: HostRuntime) -> ExitCode {
+    let Ok(stand_ins) = StandIns::take(&rt) else {
+        let _ = eprintln!(rt; "/dev/null: cannot be opened");
+        return ExitCode::from(1);
+    };
     let status = match run(&rt, &rt) {
         Ok(status) => status,
         Err(error) => refused(&rt, &error),
     };
+    drop(stand_ins);
     ExitCode::from(status)
 }

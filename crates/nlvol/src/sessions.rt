@@ -27,7 +27,7 @@ use nl_types::{Items, VolError};
 use std::alloc::Global;
 use std::fs::File;
 use std::io;
-use std::io::{Read, Write};
+use std::io::{Eprint, Read, Write};
 use std::marker::Brand;
 use std::rt::Files;
 use std::sync::Wait;
@@ -133,7 +133,7 @@ fn begin<'a, R: AllocGlobal + Files<File = File>>(
 
 /// Runs the script on its volume and ends, behind what was told.
 fn run_begun<
-    R: AllocGlobal + Files<File = File> + Threads + Wait + Sync,
+    R: AllocGlobal + Files<File = File> + Eprint + Threads + Wait + Sync,
     I: Read + Drop,
     O: Write,
     E: Write,
@@ -162,7 +162,7 @@ fn run_begun<
 }
 
 fn run_with<
-    R: AllocGlobal + Files<File = File> + Threads + Wait + Sync,
+    R: AllocGlobal + Files<File = File> + Eprint + Threads + Wait + Sync,
     I: Read + Drop,
     O: Write,
     E: Write,
@@ -200,7 +200,7 @@ fn path_of(arguments: &Arguments) -> Option<&[u8]>
 
 /// The configuration is read before anything else is judged.
 fn run<
-    R: AllocGlobal + Files<File = File> + Threads + Wait + Sync,
+    R: AllocGlobal + Files<File = File> + Eprint + Threads + Wait + Sync,
     I: Read + Drop,
     O: Write,
     E: Write,
@@ -234,7 +234,7 @@ fn run<
 /// and why the volume isn't saved goes to `errors`; and, if a person types the script at a terminal and reads
 /// `errors` there, when it will be saved.
 pub fn session<
-    R: AllocGlobal + Files<File = File> + Threads + Wait + Sync,
+    R: AllocGlobal + Files<File = File> + Eprint + Threads + Wait + Sync,
     I: Read + Drop,
     O: Write,
     E: Write,

@@ -1,21 +1,27 @@
 //! What a session begins with: the place where it saves, and the pen of a new volume, or of an image.
-ghost use Rattle.std.specs.Prelude.{◌≡◌, IfErr, IfOk, List, None, ℕ};
+ghost use Rattle.std.specs.Prelude.{◌≡◌, IfErr, IfOk, IfSome, List, None, ℕ};
+ghost use Rattle.nl_image.specs.Conditions.{MeetsFirst};
+ghost use Rattle.nl_image.specs.Parts.{Parts, image_length};
 ghost use Rattle.nl_core.specs.Opened.{IsOpenRefusal};
 ghost use Rattle.nlvol.specs.Beginnings.{IsBegunBy, IsImageFault, IsMemoryOrFault, IsNewPen, IsOpenedPen, IsStartFault, image_fault, place_path, step_of};
 
 use crate::telling::save_path;
 use nl_commands::Arguments;
 use nl_core::{Pen, geometry_of, open};
+use nl_damage::Sections;
 use nl_device::MemDevice;
-use nl_saving::{FileFault, InUse, SavePlace, read_file};
+use nl_saving::{FileFault, InUse, Reach, SavePlace, read_within};
 use nl_script::texts::StartStep;
-use nl_types::{Geometry, VolError};
+use nl_types::{BLOCK_SIZE, Geometry, VolError};
 use std::alloc::Global;
 use std::fs::File;
 use std::rt::Files;
 
 /// When a new volume is formatted, and the moment of the first lines, in whole seconds.
 pub const MOMENT: u64 = 0;
+
+/// No file is longer: its length is a number of 64 bits with a sign.
+const MOST_LENGTH: u64 = u64::MAX / 2;
 
 /// Why a session has no volume.
 #[derive(Clone, Copy)]
@@ -107,13 +113,38 @@ fn image_fault(fault: FileFault) -> StartFault
     }
 }
 
+/// How long the image is that begins so. None where no image does, or no file is so long.
+fn due_length(first: &[u8]) -> Option<u64>
+    ensures { IfSome result (λ due. (p : Parts) × MeetsFirst 2 first.now p × (due ≡ image_length p.shape)) }
+{
+    let sections = Sections::of(first)?;
+    let due = sections.places.end as u64;
+    if due <= MOST_LENGTH { Some(due) } else { None }
+}
+
+/// How much of a file that is to be an image is read: so much that all of it fails the same condition first.
+#[derive(Clone, Copy)]
+struct ImageReach;
+
+impl Reach for ImageReach {
+    /// None where the first bytes fail a condition already, or where the file is known to have another length
+    /// than they tell. Else up to a byte more than that.
+    fn more(&self, first: &[u8], length: Option<u64>) -> u64 {
+        match (due_length(first), length) {
+            (None, _) => 0,
+            (Some(due), Some(length)) if length != due => 0,
+            (Some(due), _) => due.saturating_sub(first.len() as u64).saturating_add(1),
+        }
+    }
+}
+
 /// The volume of the image in the file at a path. Its bytes are given back once it is open.
 fn pen_at<R: AllocGlobal + Files>(rt: &R, path: &[u8]) -> Result<Pen<MemDevice>, StartFault>
     ensures opened { IfOk result (λ pen. (image : List ℕ) × IsOpenedPen image pen) }
     ensures refused { IfErr result IsImageFault }
 {
-    let image = match read_file(rt, path) {
-        Ok(image) => image,
+    let image = match read_within(rt, path, BLOCK_SIZE as u64, &ImageReach) {
+        Ok(read) => read.bytes,
         Err(fault) => return Err(image_fault(fault)),
     };
     match opened_pen(rt.alloc(), image.as_slice()) {
