@@ -1,13 +1,12 @@
-//! How much the tree of a checkpoint has, by its names and sizes alone.
-use nl_folders::{Folder, FolderError, Name, Path, spelled, with_name};
-use nl_keep::{CheckpointFolder, Volume};
-use nl_types::{Answer, Ask, CheckpointNumber, Items, Kind, Reply, Stat, VolError};
+//! How much a checkpoint shows.
+use nl_folders::{Name, Path, spelled};
+use nl_keep::Volume;
+use nl_manifests::{HostEntry, HostObject};
+use nl_types::{Answer, Ask, CheckpointNumber, Reply, Stat, VolError};
 use std::alloc::Global;
 
-/// The most directories of a tree.
-const MOST_DIRECTORIES: usize = 524_278;
-
-/// How many paths a tree has, its root's not counted, and how many bytes all its files.
+/// How many paths a checkpoint shows, its root not counted, links counted and manifests not, and how many
+/// bytes all files have that it shows.
 #[derive(Clone, Copy)]
 pub struct Amount {
     pub paths: u64,
@@ -38,69 +37,32 @@ pub fn size_at<V: Volume>(
     size_told(volume.read_at(number, &Ask::Stat { path }))
 }
 
-fn size_of<V: Volume>(
+/// How many bytes an entry has that a kept checkpoint shows at a path: those of a file, and none else.
+fn bytes_of<V: Volume>(
     alloc: Global,
-    folder: &CheckpointFolder<'_, V>,
+    volume: &V,
+    number: CheckpointNumber,
     path: &[Name],
-) -> Result<u64, FolderError> {
-    match size_at(alloc, folder.volume, folder.number, path) {
-        Ok(Some(size)) => Ok(size),
-        Ok(None) => Err(FolderError::Disordered),
-        Err(error) => Err(FolderError::Refused(error)),
+    entry: &HostEntry,
+) -> Result<u64, VolError> {
+    match entry.object {
+        HostObject::File(_) => Ok(size_at(alloc, volume, number, path)?.unwrap_or(0)),
+        _ => Ok(0),
     }
 }
 
-/// Adds what stands under a name of a directory. A directory there is looked at later.
-fn add<V: Volume>(
-    alloc: Global,
-    folder: &CheckpointFolder<'_, V>,
-    path: Path,
-    kind: Kind,
-    amount: &mut Amount,
-    pending: &mut Vec<Path>,
-) -> Result<(), FolderError> {
-    amount.paths = amount.paths.saturating_add(1);
-    match kind {
-        Kind::Directory => pending.push(path)?,
-        Kind::File => {
-            let size = size_of(alloc, folder, path.as_slice())?;
-            amount.bytes = amount.bytes.saturating_add(size);
-        }
-    }
-    Ok(())
-}
-
-/// Adds what stands in a directory.
-fn add_all<V: Volume>(
-    alloc: Global,
-    folder: &mut CheckpointFolder<'_, V>,
-    directory: &Path,
-    amount: &mut Amount,
-    pending: &mut Vec<Path>,
-) -> Result<(), FolderError> {
-    let names = folder.list(alloc, directory.as_slice())?;
-    for named in names.as_slice() {
-        let path = with_name(alloc, directory.as_slice(), named.name.as_slice())?;
-        add(alloc, folder, path, named.kind, amount, pending)?;
-    }
-    Ok(())
-}
-
-/// How much the tree of a kept checkpoint has.
+/// How much a kept checkpoint shows, by all that it shows.
 pub fn amount_of<V: Volume>(
     alloc: Global,
     volume: &V,
     number: CheckpointNumber,
-) -> Result<Amount, FolderError> {
-    let mut folder = CheckpointFolder { volume, number };
-    let mut amount = Amount { paths: 0, bytes: 0 };
-    let mut pending = Vec::new(alloc);
-    pending.push(Items::new(alloc))?;
-    for _ in 0..MOST_DIRECTORIES {
-        let Some(directory) = pending.pop() else {
-            return Ok(amount);
-        };
-        add_all(alloc, &mut folder, &directory, &mut amount, &mut pending)?;
+    shown: &[(Path, HostEntry)],
+) -> Result<Amount, VolError> {
+    let mut bytes: u64 = 0;
+    for (path, entry) in shown {
+        let more = bytes_of(alloc, volume, number, path.as_slice(), entry)?;
+        bytes = bytes.saturating_add(more);
     }
-    Err(FolderError::Refused(VolError::TooBig))
+    let paths = (shown.len() as u64).saturating_sub(1);
+    Ok(Amount { paths, bytes })
 }

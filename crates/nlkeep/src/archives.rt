@@ -1,12 +1,14 @@
 //! `tar` and `untar`: a checkpoint's tree as an archive, and the tree of an archive as the next snapshot.
 use crate::asking::{Clock, Outcome, word};
 use crate::faults::{Fault, fault_at};
+use crate::gauge::Gauge;
 use crate::images::take_place;
-use crate::parts::part_wanted;
+use crate::manifests::{tell_bad_manifests, with_private};
+use crate::parts::{part_wanted, path_said};
 use crate::printing::{Printer, tell_paths_left_out, tell_refused_below};
 use crate::progress::Progress;
 use crate::storing::{Gathered, Keeping};
-use crate::unpacking::{INPUT, input_fault, kept_of};
+use crate::unpacking::{INPUT, LIMITS, input_fault, kept_of};
 use crate::views::View;
 use clap::ArgMatches;
 use nl_folders::Path;
@@ -43,10 +45,14 @@ pub fn tar<W: Write>(
     let alloc = rt.alloc();
     let top = word(matches, "PATH");
     let Opened { tree, refused } = view.opened(alloc, word(matches, "CNO"), clock)?;
-    let part = part_wanted(alloc, tree, top)?;
+    let are_good = tell_bad_manifests(rt, tree.as_slice(), path_said(alloc, top)?.as_slice(), None);
+    let mut part = part_wanted(alloc, tree, top)?;
+    if !are_good {
+        part = with_private(alloc, part)?;
+    }
     write_archive(alloc, part.as_slice(), printer)?;
     let is_whole = tell_refused_below(rt, refused.as_slice(), top)?;
-    Ok(Outcome::of(is_whole))
+    Ok(Outcome::of(is_whole && are_good))
 }
 
 /// Sees to it that standard input is no terminal.
@@ -66,9 +72,10 @@ fn unpacked(rt: &HostRuntime, progress: &mut Progress<'_>) -> Result<Gathered, F
     let alloc = rt.alloc();
     judge_input(rt)?;
     progress.tell("reading the archive");
-    let kept = match nl_tar::read_from(alloc, &mut rt.stdin()) {
+    let mut gauge = Gauge::new(rt);
+    let kept = match nl_tar::read_from(alloc, Some(LIMITS), &mut gauge) {
         Ok(unpacked) => kept_of(alloc, unpacked),
-        Err(error) => Err(input_fault(alloc, error)),
+        Err(error) => Err(input_fault(alloc, error, &gauge)),
     };
     progress.end();
     let kept = kept?;
@@ -87,7 +94,7 @@ fn untar_into<W: Write>(
     printer: &mut Printer<W>,
 ) -> Result<Outcome, Fault> {
     let keeping = Keeping::said(rt, matches, clock)?;
-    let mut progress = Progress::begin(rt);
+    let mut progress = Progress::begin(rt, matches);
     let gathered = unpacked(rt, &mut progress)?;
     keeping.keep_gathered(rt, clock, gathered, &mut progress, place, printer)
 }

@@ -1,5 +1,5 @@
 //! What a command is given, and what it has at hand.
-use crate::faults::{Fault, fault_at};
+use crate::faults::{Fault, PARTLY, fault_at};
 use crate::sizes::{MOST, SEGMENT_BYTES, segments_said};
 use clap::ArgMatches;
 use jiff::tz::TimeZone;
@@ -43,7 +43,7 @@ impl Outcome {
         match self {
             Outcome::Done => 0,
             Outcome::Differs => 1,
-            Outcome::Partly => 3,
+            Outcome::Partly => PARTLY,
         }
     }
 }
@@ -64,6 +64,8 @@ pub fn moment(rt: &HostRuntime, matches: &ArgMatches<'_>, now: u64) -> Result<u6
     }
 }
 
+const NO_SIZE: &str = "no size from 512K to 256M, in the form of 8M, 8192K or 8388608";
+
 /// How many segments the size has that an option gives.
 pub fn segments(
     rt: &HostRuntime,
@@ -76,7 +78,7 @@ pub fn segments(
     };
     match segments_said(word) {
         Some(segments) => Ok(segments),
-        None => Err(fault_at(rt.alloc(), word, "no size from 512K to 256M")),
+        None => Err(fault_at(rt.alloc(), word, NO_SIZE)),
     }
 }
 

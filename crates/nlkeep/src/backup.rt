@@ -1,47 +1,47 @@
 //! `backup`: the volume's tree becomes that of a folder of the host, and is kept as the next snapshot.
 use crate::asking::{Clock, Outcome, word};
-use crate::comparing::tell_differences;
+use crate::comparing::{count_differences, tell_differences};
+use crate::excluding::{patterns, tell_unmet};
 use crate::faults::Fault;
 use crate::images::take_place;
+use crate::own_files::judge_image;
 use crate::printing::{Printer, tell_left_out};
 use crate::progress::Progress;
 use crate::scanning::{Scan, Source, scan_folder};
 use crate::storing::{Gathered, Keeping};
 use crate::views::View;
 use clap::ArgMatches;
-use nl_folders::Tree;
-use nl_host::Pattern;
+use nl_folders::{Path, Tree};
 use nl_saving::SavePlace;
-use std::alloc::{AllocError, Global};
+use nl_types::Object;
+use std::alloc::Global;
 use std::io::Write;
 
-fn patterns<'a>(alloc: Global, matches: &ArgMatches<'a>) -> Result<Vec<Pattern<'a>>, AllocError> {
-    let words = matches.get_strs("exclude").unwrap_or(&[]);
-    let mut patterns = Vec::with_capacity(alloc, words.len())?;
-    for word in words {
-        patterns.push(Pattern::of(word))?;
-    }
-    Ok(patterns)
-}
-
-/// What is to be kept of the folder that a command names. What is left out is told.
+/// What is to be kept of the folder that a command names, for an image that is there. What is left out is
+/// told.
 fn gathered(
     rt: &HostRuntime,
     matches: &ArgMatches<'_>,
     progress: &mut Progress<'_>,
 ) -> Result<Gathered, Fault> {
+    let image = word(matches, "IMAGE");
+    judge_image(rt, image)?;
     let excluded = patterns(rt.alloc(), matches)?;
     let source = Source {
         folder: word(matches, "FOLDER"),
         excluded: excluded.as_slice(),
         is_plain: matches.get_flag("plain"),
+        is_one_system: matches.get_flag("one-file-system"),
     };
-    let Scan { tree, left_out } = scan_folder(rt, source, word(matches, "IMAGE"), progress)?;
+    progress.tell("reading");
+    let scan = scan_folder(rt, source, image, progress);
     progress.end();
+    let Scan { tree, left_out } = scan?;
     tell_left_out(rt, left_out.as_slice());
+    tell_unmet(rt, matches, tree.as_slice())?;
     Ok(Gathered {
         tree,
-        is_whole: left_out.is_empty(),
+        is_whole: !left_out.iter().any(|left| left.reason.is_lack()),
     })
 }
 
@@ -52,6 +52,19 @@ fn present_tree(rt: &HostRuntime, path: &str, clock: &Clock<'_>) -> Result<Tree,
     view.present_tree(rt.alloc())
 }
 
+/// Tells how many paths a backup would change.
+fn tell_count<W: Write>(
+    alloc: Global,
+    old: &[(Path, Object)],
+    new: &[(Path, Object)],
+    printer: &mut Printer<W>,
+) -> Result<(), Fault> {
+    let count = count_differences(alloc, old, new)?;
+    let ending = if count == 1 { "" } else { "s" };
+    writeln!(printer.out, "{count} path{ending} would change")?;
+    Ok(())
+}
+
 /// Tells what a backup would change.
 fn rehearse<W: Write>(
     rt: &HostRuntime,
@@ -59,9 +72,14 @@ fn rehearse<W: Write>(
     clock: &Clock<'_>,
     printer: &mut Printer<W>,
 ) -> Result<Outcome, Fault> {
-    let Gathered { tree, is_whole } = gathered(rt, matches, &mut Progress::begin(rt))?;
+    let mut progress = Progress::begin(rt, matches);
+    let Gathered { tree, is_whole } = gathered(rt, matches, &mut progress)?;
     let present = present_tree(rt, word(matches, "IMAGE"), clock)?;
-    tell_differences(rt.alloc(), present.as_slice(), tree.as_slice(), printer)?;
+    if matches.get_flag("quiet") {
+        tell_count(rt.alloc(), present.as_slice(), tree.as_slice(), printer)?;
+    } else {
+        tell_differences(rt.alloc(), present.as_slice(), tree.as_slice(), printer)?;
+    }
     Ok(Outcome::of(is_whole))
 }
 
@@ -73,7 +91,7 @@ fn backup_into<W: Write>(
     printer: &mut Printer<W>,
 ) -> Result<Outcome, Fault> {
     let keeping = Keeping::said(rt, matches, clock)?;
-    let mut progress = Progress::begin(rt);
+    let mut progress = Progress::begin(rt, matches);
     let gathered = gathered(rt, matches, &mut progress)?;
     keeping.keep_gathered(rt, clock, gathered, &mut progress, place, printer)
 }

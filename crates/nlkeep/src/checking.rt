@@ -5,13 +5,15 @@ ghost use Rattle.nl_image.specs.Conditions.{AreImage, FirstFails};
 
 use crate::asking::{Outcome, word};
 use crate::faults::{Fault, volume_fault};
-use crate::images::{pen_of, read_image};
+use crate::image_files::{Purpose, irregular, read_for};
+use crate::images::pen_of;
 use crate::printing::Printer;
 use crate::sums::{Summed, beside_sum, kept_in, sum_path};
 use crate::verdicts::tell_objects;
 use clap::ArgMatches;
 use nl_damage::sums::{Comparison, Kept};
 use nl_damage::{Finding, Judged, Place, Sections, path_of, place_of};
+use nl_saving::FirstBytes;
 use nl_types::{BLOCK_SIZE, VolError};
 use std::alloc::{AllocError, Global};
 use std::io::{self, Write};
@@ -99,11 +101,25 @@ pub struct Judgement {
 /// The last condition of an image.
 const LAST: u8 = 11;
 
+/// A place by the length of the file, of which no more was read than that it is too long.
+fn with_length(place: Place, length: Option<u64>) -> Place {
+    match place {
+        Place::Length { bytes, parts } if bytes > parts => Place::Length {
+            bytes: bytes.max(length.unwrap_or(bytes)),
+            parts,
+        },
+        place => place,
+    }
+}
+
 /// An image that is told of.
 #[derive(Clone, Copy)]
 pub struct Told<'a> {
     pub path: &'a str,
+    /// What was read of it: all, or a byte more than an image of its counts has.
     pub image: &'a [u8],
+    /// How many bytes its file has, where the system tells that.
+    pub length: Option<u64>,
     /// Where its sum stands.
     pub sum_path: &'a str,
     pub summed: &'a Summed,
@@ -133,7 +149,7 @@ impl Told<'_> {
         let place = place_of(alloc, self.image, first)?;
         Ok(Judgement {
             number: first,
-            finding: Finding::Fails(place),
+            finding: Finding::Fails(place.map(|place| with_length(place, self.length))),
         })
     }
 
@@ -297,7 +313,8 @@ fn with_sum_told(rt: &HostRuntime, told: &Told<'_>, outcome: Outcome) -> Outcome
     if !matches!(told.summed, Summed::Unread) {
         return outcome;
     }
-    let _ = eprintln!(rt; "nlkeep: left out: {}: cannot be read", told.sum_path);
+    let why = irregular(rt, told.sum_path).unwrap_or("cannot be read");
+    let _ = eprintln!(rt; "nlkeep: left out: {}: {why}", told.sum_path);
     outcome.and(Outcome::Partly)
 }
 
@@ -331,13 +348,17 @@ pub fn check<W: Write>(
 ) -> Result<Outcome, Fault> {
     let alloc = rt.alloc();
     let path = word(matches, "IMAGE");
-    let image = read_image(rt, path)?;
-    let sum_path = sum_path(alloc, path)?;
+    let FirstBytes {
+        bytes: image,
+        length,
+    } = read_for(rt, path, Purpose::Judging)?;
+    let sum_path = sum_path(rt, path)?;
     let failing = failing_of(alloc, path, image.as_slice())?;
     let is_all = matches.get_flag("all");
     let told = Told {
         path,
         image: image.as_slice(),
+        length,
         sum_path: sum_path.as_str(),
         summed: &beside_sum(rt, sum_path.as_str(), image.as_slice())?,
         failing,

@@ -7,6 +7,7 @@ use nl_device::MemDevice;
 use nl_types::{
     Answer, CheckpointNumber, Event, Items, ListOptions, Reply, Row, VolError, decimal,
 };
+pub use nl_words::is_plain_minor as is_minor;
 use std::alloc::Global;
 
 /// All checkpoints, the minor ones too.
@@ -27,18 +28,13 @@ fn rows_in(reply: Reply) -> Result<Items<Row>, VolError> {
     }
 }
 
-/// What is told of the kept checkpoints, by their numbers, of the minor ones too. `image` is where the volume's
-/// image stands.
+/// What is told of the kept checkpoints, by their numbers, of the minor ones too. `image` is where the
+/// volume's image stands.
 pub fn rows(alloc: Global, image: &str, pen: &mut Pen<MemDevice>) -> Result<Items<Row>, Fault> {
     match rows_in(pen.apply(&Event::Listing(ALL))) {
         Ok(rows) => Ok(rows),
         Err(error) => Err(volume_fault(alloc, image, error)),
     }
-}
-
-/// Whether the volume made a checkpoint by itself, and nobody made a snapshot of it.
-pub fn is_minor(row: &Row) -> bool {
-    row.minor && !row.mode.is_snapshot()
 }
 
 /// The latest checkpoint that isn't minor, nor later than a moment.

@@ -1,6 +1,7 @@
 //! What differs between two trees.
 use crate::faults::{Fault, tree_fault};
 use crate::json::{DifferenceObject, object};
+use crate::manifests::tell_bad_manifests;
 use crate::printing::{Printer, Seen};
 use crate::views::{View, shown_alone};
 use nl_folders::{Difference, Name, Path, all_differences, begins_with, find_in};
@@ -62,6 +63,16 @@ fn tell_lines<W: Write>(
     Ok(())
 }
 
+/// At how many paths what one tree shows differs from what another one does.
+pub fn count_differences(
+    alloc: Global,
+    old: &[(Path, Object)],
+    new: &[(Path, Object)],
+) -> Result<usize, Fault> {
+    let all = differences(alloc, &Side::of(alloc, old)?, &Side::of(alloc, new)?)?;
+    Ok(all.len())
+}
+
 /// Tells what differs from what one tree shows to what another one does, in the order of the paths, a line
 /// each. Answers how many paths that are.
 pub fn tell_differences<W: Write>(
@@ -114,13 +125,12 @@ impl Comparing<'_> {
         Ok(Compared { old, new, all })
     }
 
-    /// Tells what differs at a path, by what is left of it.
+    /// Tells what differs at a path.
     fn tell_one<W: Write>(
         &self,
         alloc: Global,
         compared: &Compared,
         path: &[Name],
-        rest: &[Name],
         difference: HostDifference,
         printer: &mut Printer<W>,
     ) -> Result<(), Fault> {
@@ -131,10 +141,10 @@ impl Comparing<'_> {
             .view
             .seen(alloc, self.new, compared.new.as_slice(), path)?;
         if self.is_json {
-            let told = DifferenceObject::of(alloc, rest, difference, old, new)?;
+            let told = DifferenceObject::of(alloc, path, difference, old, new)?;
             return object(alloc, &told, printer);
         }
-        printer.difference(rest, difference, old, new)?;
+        printer.difference(path, difference, old, new)?;
         Ok(())
     }
 
@@ -149,18 +159,38 @@ impl Comparing<'_> {
         for (path, difference) in compared.all.as_slice() {
             let path = path.as_slice();
             if begins_with(path, top) {
-                let rest = &path[top.len()..];
-                self.tell_one(alloc, compared, path, rest, *difference, printer)?;
+                self.tell_one(alloc, compared, path, *difference, printer)?;
                 count = count.saturating_add(1);
             }
         }
         Ok(count)
     }
 
-    /// Tells what differs from one checkpoint to another, as `tell_differences` does, with what is left of the
-    /// paths.
+    /// Tells the manifests of both checkpoints that are none. Answers whether there are none.
+    fn tell_bad(&self, rt: &HostRuntime, compared: &Compared) -> bool {
+        let (old, new) = (Some(self.old.get()), Some(self.new.get()));
+        let are_old_good = tell_bad_manifests(rt, compared.old.as_slice(), self.top, old);
+        let are_new_good = tell_bad_manifests(rt, compared.new.as_slice(), self.top, new);
+        are_old_good && are_new_good
+    }
+
+    /// Tells what differs from one checkpoint to another, as `tell_differences` does. Answers how much
+    /// differs.
     pub fn tell<W: Write>(&self, alloc: Global, printer: &mut Printer<W>) -> Result<usize, Fault> {
         let compared = self.compared(alloc)?;
         self.tell_all(alloc, &compared, printer)
+    }
+
+    /// The same, and tells which manifests are none. Answers whether there are none, too.
+    pub fn tell_judged<W: Write>(
+        &self,
+        rt: &HostRuntime,
+        printer: &mut Printer<W>,
+    ) -> Result<(usize, bool), Fault> {
+        let alloc = rt.alloc();
+        let compared = self.compared(alloc)?;
+        let are_good = self.tell_bad(rt, &compared);
+        let count = self.tell_all(alloc, &compared, printer)?;
+        Ok((count, are_good))
     }
 }

@@ -1,39 +1,49 @@
 //! `copy`: later checkpoints of one image come into another one, which may lie on a second disk.
 use crate::asking::{Clock, Outcome, most, word};
 use crate::checkpoints::is_minor;
-use crate::faults::{Fault, system_fault, volume_fault};
-use crate::images::{open_image, read_image, save_image, take_place};
+use crate::faults::{Fault, system_fault, told, volume_fault};
+use crate::images::{open_image, read_image, take_place};
 use crate::making::new_image;
 use crate::moments::shown;
-use crate::printing::Printer;
+use crate::printing::{Printer, last_line};
 use crate::storing::{Stores, Wanted, store_in};
+use crate::telling::{News, done_to};
 use crate::views::{View, latest_stamp};
 use clap::ArgMatches;
 use nl_core::Pen;
 use nl_device::MemDevice;
+use nl_folders::{Tree, same_trees};
 use nl_pins::with_pins;
 use nl_saving::SavePlace;
 use nl_types::{CheckpointNumber, Event, Items, Mode, Row, VolError, without_answer};
+use nl_words::{Kept, coming, missing};
 use std::alloc::{AllocError, Global};
 use std::fs;
 use std::io::{ErrorKind, Write};
 use std::mem::replace;
+use std::os::unix::fs::MetadataExt;
 
 /// What stands in the image that checkpoints come into.
 #[derive(Drop)]
 struct Target {
-    /// What is told of its checkpoints, the minor ones too.
-    rows: Items<Row>,
+    choice: Choice,
     /// The file of its pins.
     pins: Option<Items<u8>>,
 }
 
 impl Target {
-    fn of(rt: &HostRuntime, path: &str, clock: &Clock<'_>, image: &[u8]) -> Result<Target, Fault> {
-        let view = View::of(rt, path, image, clock)?;
-        let pins = view.pins_file(rt.alloc())?;
-        let rows = view.rows;
-        Ok(Target { rows, pins })
+    /// Of the bytes of the image at a path, into which those of a view come. A late date is told.
+    fn of(
+        rt: &HostRuntime,
+        path: &str,
+        clock: &Clock<'_>,
+        view: &View<'_>,
+        image: &[u8],
+    ) -> Result<Target, Fault> {
+        let other = View::of(rt, path, image, clock)?;
+        let choice = Choice::of(rt.alloc(), view, &other)?;
+        let pins = other.pins_file(rt.alloc())?;
+        Ok(Target { choice, pins })
     }
 
     /// The file of its pins, once more.
@@ -47,18 +57,19 @@ impl Target {
 
 // ---- a new image
 
-/// The moment that a new volume begins with, so that all checkpoints of another one are later, but one that is
-/// of the empty tree with which that began.
+/// The moment that a new volume begins with, of which no checkpoint of another one is earlier: that of the
+/// first one if this is of the empty tree, for which the first one of the new volume stands; else a second
+/// before.
 fn first_moment(rows: &[Row]) -> u64 {
     match rows {
-        [row, ..] if row.number.get() == 1 => row.stamp,
+        [row, ..] if row.inodes <= 1 => row.stamp,
         [row, ..] => row.stamp.saturating_sub(1),
         [] => 0,
     }
 }
 
-/// The image at a path, or where nothing stands there that of a new volume, as great as the one that is copied; and
-/// whether it is new.
+/// The image at a path, or where nothing stands there that of a new volume, as great as the one that is
+/// copied; and whether it is new.
 fn image_for(rt: &HostRuntime, path: &str, view: &View<'_>) -> Result<(Vec<u8>, bool), Fault> {
     let alloc = rt.alloc();
     match fs::symlink_metadata(rt, path) {
@@ -82,11 +93,92 @@ fn is_of_date(row: &Row, stamp: u64) -> bool {
     !is_minor(row) && row.stamp == stamp
 }
 
-/// Whether the other volume has at least as many checkpoints of a date as there are so far.
-fn is_there(rows_so_far: &[Row], stamp: u64, others: &[Row]) -> bool {
-    let here = rows_so_far.iter().filter(|row| is_of_date(row, stamp));
-    let there = others.iter().filter(|row| is_of_date(row, stamp));
-    here.count() <= there.count()
+/// The place of a tree among these, how many they are where it isn't among them.
+fn place_of(trees: &[Tree], tree: &Tree) -> usize {
+    for place in 0..trees.len() {
+        if same_trees(trees[place].as_slice(), tree.as_slice()) {
+            return place;
+        }
+    }
+    trees.len()
+}
+
+fn kept(row: &Row, place: usize) -> Kept {
+    Kept {
+        row: *row,
+        tree: place as u64,
+    }
+}
+
+/// The place of the tree of a checkpoint, which is added where it isn't there.
+fn place_added(
+    alloc: Global,
+    other: &View<'_>,
+    row: &Row,
+    trees: &mut Vec<Tree>,
+) -> Result<usize, Fault> {
+    let tree = other.tree_of(alloc, row.number)?;
+    let place = place_of(trees.as_slice(), &tree);
+    if place == trees.len() {
+        trees.push(tree)?;
+    }
+    Ok(place)
+}
+
+/// The checkpoints into which others come. Those of a date are told apart by the places of their trees, which
+/// are added to these; the trees of all others count as one.
+fn others_of(
+    alloc: Global,
+    other: &View<'_>,
+    stamp: u64,
+    trees: &mut Vec<Tree>,
+) -> Result<Vec<Kept>, Fault> {
+    let mut all = Vec::with_capacity(alloc, other.rows.len())?;
+    for row in other.rows.as_slice() {
+        let place = if is_of_date(row, stamp) {
+            place_added(alloc, other, row, trees)?
+        } else {
+            0
+        };
+        all.push(kept(row, place))?;
+    }
+    Ok(all)
+}
+
+/// The checkpoints that may come over, told apart in the same way. The trees that the other volume doesn't
+/// have at that date count as one: it lacks each of them.
+fn rows_of(alloc: Global, view: &View<'_>, stamp: u64, trees: &[Tree]) -> Result<Vec<Kept>, Fault> {
+    let mut all = Vec::with_capacity(alloc, view.rows.len())?;
+    for row in view.rows.as_slice() {
+        let place = if is_of_date(row, stamp) {
+            place_of(trees, &view.tree_of(alloc, row.number)?)
+        } else {
+            0
+        };
+        all.push(kept(row, place))?;
+    }
+    Ok(all)
+}
+
+/// What comes over into another volume, and what can't any more.
+#[derive(Drop)]
+struct Choice {
+    coming: Vec<Row>,
+    missing: Vec<Row>,
+}
+
+impl Choice {
+    fn of(alloc: Global, view: &View<'_>, other: &View<'_>) -> Result<Choice, Fault> {
+        let stamp = latest_stamp(other.rows.as_slice());
+        let mut trees = Vec::new(alloc);
+        let others = others_of(alloc, other, stamp, &mut trees)?;
+        let rows = rows_of(alloc, view, stamp, trees.as_slice())?;
+        let (rows, others) = (rows.as_slice(), others.as_slice());
+        Ok(Choice {
+            coming: coming(alloc, rows, others)?,
+            missing: missing(alloc, rows, others)?,
+        })
+    }
 }
 
 /// Tells of a checkpoint that can't come over any more.
@@ -134,26 +226,17 @@ struct Copying<'a> {
     path: &'a str,
     clock: &'a Clock<'a>,
     most: u64,
+    /// Whether only the last line is told.
+    is_quiet: bool,
 }
 
 impl Copying<'_> {
-    /// Tells the checkpoints that aren't in the other volume and aren't later than its latest one. Answers
-    /// whether there are none.
-    fn tell_all_left_out(&self, rt: &HostRuntime, others: &[Row]) -> Result<bool, Fault> {
-        let rows = self.view.rows.as_slice();
-        let latest = latest_stamp(others);
-        let mut is_whole = true;
-        for (place, row) in rows.iter().enumerate() {
-            if is_minor(row) || row.stamp > latest {
-                continue;
-            }
-            let (so_far, _) = rows.split_at(place.saturating_add(1).min(rows.len()));
-            if !is_there(so_far, row.stamp, others) {
-                tell_left_out(rt, self.clock, self.path, row)?;
-                is_whole = false;
-            }
+    /// Tells the checkpoints that can't come over any more.
+    fn tell_missing(&self, rt: &HostRuntime, missing: &[Row]) -> Result<(), Fault> {
+        for row in missing {
+            tell_left_out(rt, self.clock, self.path, row)?;
         }
-        Ok(is_whole)
+        Ok(())
     }
 
     /// The tree of a checkpoint beside the other volume's own pins, and its date.
@@ -191,26 +274,28 @@ impl Copying<'_> {
         alloc: Global,
         image: Vec<u8>,
         target: &Target,
-        told: &mut Vec<u8>,
+        text: &mut Vec<u8>,
     ) -> Result<Copied, Fault> {
-        let latest = latest_stamp(target.rows.as_slice());
         let mut copied = Copied {
             image,
             plain: Vec::new(alloc),
             count: 0,
         };
-        for row in self.view.rows.as_slice() {
-            if !is_minor(row) && row.stamp > latest {
-                self.add(alloc, row, target, &mut copied)?;
-                self.tell_copied(alloc, row, told)?;
-            }
+        for row in target.choice.coming.as_slice() {
+            self.add(alloc, row, target, &mut copied)?;
+            self.tell_copied(alloc, row, text)?;
         }
         Ok(copied)
     }
 
-    fn tell_copied(&self, alloc: Global, row: &Row, told: &mut Vec<u8>) -> Result<(), Fault> {
+    /// What a person wants to know of what is told.
+    fn part_of<'t>(&self, told: &'t [u8]) -> &'t [u8] {
+        if self.is_quiet { last_line(told) } else { told }
+    }
+
+    fn tell_copied(&self, alloc: Global, row: &Row, text: &mut Vec<u8>) -> Result<(), Fault> {
         let (number, date) = (row.number.get(), shown(alloc, &self.clock.zone, row.stamp)?);
-        writeln!(told, "{number:>8}  {date}")?;
+        writeln!(text, "{number:>8}  {date}")?;
         Ok(())
     }
 }
@@ -282,23 +367,28 @@ fn finished(alloc: Global, path: &str, copied: Copied) -> Result<Vec<u8>, Fault>
 // ---- the command
 
 impl Copying<'_> {
-    /// Saves what was copied, where the image is other than before. Answers whether its sum is left out.
-    fn save(
+    /// Saves what was copied, where the image is other than before, and tells of it. Answers whether the sum
+    /// of the image is left out.
+    fn save<W: Write>(
         &self,
         rt: &HostRuntime,
         copied: Copied,
         is_new: bool,
+        text: Vec<u8>,
         place: &mut SavePlace<'_>,
+        printer: &mut Printer<W>,
     ) -> Result<Outcome, Fault> {
         if copied.count == 0 && !is_new {
+            printer.out.write_all(text.as_slice())?;
             return Ok(Outcome::Done);
         }
+        let done = done_to(rt.alloc(), copied.count, "copied")?;
         let next = finished(rt.alloc(), self.path, copied)?;
-        save_image(rt, self.path, place, next.as_slice())
+        News { text, done }.save(rt, self.path, place, next.as_slice(), printer)
     }
 
-    /// Brings checkpoints into an image, and tells of them once it is saved. Answers whether one of them is left
-    /// out, or the image's sum.
+    /// Brings checkpoints into an image, and tells of them once it is saved. Answers whether one of them is
+    /// left out, or the image's sum.
     fn copy_into<W: Write>(
         &self,
         rt: &HostRuntime,
@@ -307,16 +397,17 @@ impl Copying<'_> {
         place: &mut SavePlace<'_>,
         printer: &mut Printer<W>,
     ) -> Result<Outcome, Fault> {
-        let is_whole = self.tell_all_left_out(rt, target.rows.as_slice())?;
+        let missing = target.choice.missing.as_slice();
+        self.tell_missing(rt, missing)?;
         let (image, is_new) = image;
-        let mut told = Vec::new(rt.alloc());
-        let copied = self.with_all(rt.alloc(), image, target, &mut told)?;
+        let mut text = Vec::new(rt.alloc());
+        let copied = self.with_all(rt.alloc(), image, target, &mut text)?;
         let count = copied.count;
         let ending = if count == 1 { "" } else { "s" };
-        writeln!(told, "{count} checkpoint{ending} copied")?;
-        let saved = self.save(rt, copied, is_new, place)?;
-        printer.out.write_all(told.as_slice())?;
-        Ok(saved.and(Outcome::of(is_whole)))
+        writeln!(text, "{count} checkpoint{ending} copied")?;
+        let text = Vec::from_slice(rt.alloc(), self.part_of(text.as_slice()))?;
+        let saved = self.save(rt, copied, is_new, text, place, printer)?;
+        Ok(saved.and(Outcome::of(missing.is_empty())))
     }
 
     /// The same of the image that is locked.
@@ -327,7 +418,7 @@ impl Copying<'_> {
         printer: &mut Printer<W>,
     ) -> Result<Outcome, Fault> {
         let image = image_for(rt, self.path, self.view)?;
-        let target = Target::of(rt, self.path, self.clock, image.0.as_slice())?;
+        let target = Target::of(rt, self.path, self.clock, self.view, image.0.as_slice())?;
         self.copy_into(rt, image, &target, place, printer)
     }
 }
@@ -347,20 +438,39 @@ fn copy_in<W: Write>(
         path: word(matches, "IMAGE2"),
         clock,
         most,
+        is_quiet: matches.get_flag("quiet"),
     };
     copying.copy(rt, place, printer)
 }
 
-/// Brings each checkpoint of an image into another one that is later than all of that, the oldest first, with its
-/// tree, its date and its mode, and saves that image. Minor ones are passed over. Where nothing stands in the place
-/// of the other image, it is made.
+/// Whether one file is at both paths, by whatever names.
+fn are_one_file(rt: &HostRuntime, path: &str, other: &str) -> bool {
+    match (fs::metadata(rt, path), fs::metadata(rt, other)) {
+        (Ok(one), Ok(two)) => one.dev() == two.dev() && one.ino() == two.ino(),
+        _ => false,
+    }
+}
+
+/// Sees to it that no image is copied onto itself.
+fn judge_paths(rt: &HostRuntime, path: &str, other: &str) -> Result<(), Fault> {
+    if are_one_file(rt, path, other) {
+        return Err(told(format!(in rt.alloc(); "{other}: is the same file as {path}")));
+    }
+    Ok(())
+}
+
+/// Brings each checkpoint of an image into another one that isn't earlier than the latest of that, and that
+/// it lacks, the oldest first, with its tree, its date and its mode, and saves that image. Minor ones are
+/// passed over. Where nothing stands in the place of the other image, it is made.
 pub fn copy<W: Write>(
     rt: &HostRuntime,
     matches: &ArgMatches<'_>,
     clock: &Clock<'_>,
     printer: &mut Printer<W>,
 ) -> Result<Outcome, Fault> {
-    let view = View::at(rt, word(matches, "IMAGE"))?;
-    let mut place = take_place(rt, word(matches, "IMAGE2"))?;
+    let (path, other) = (word(matches, "IMAGE"), word(matches, "IMAGE2"));
+    judge_paths(rt, path, other)?;
+    let view = View::at(rt, path)?;
+    let mut place = take_place(rt, other)?;
     copy_in(rt, matches, clock, &view, &mut place, printer)
 }

@@ -170,6 +170,14 @@ impl VolumeUse {
     }
 }
 
+/// How many bytes the blocks of a volume have that a kept checkpoint or the volume's tables need. `path` is
+/// where its image stands.
+pub fn needed_bytes(alloc: Global, path: &str, pen: &Pen<MemDevice>) -> Result<u64, Fault> {
+    let uses = segment_uses(alloc, path, pen)?;
+    let whole = VolumeUse::of(uses.as_slice());
+    Ok(whole.blocks.needed.saturating_mul(BLOCK_SIZE as u64))
+}
+
 /// The object that `df --json` writes.
 #[derive(Drop, Serialize)]
 struct UseObject {

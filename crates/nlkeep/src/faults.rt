@@ -2,17 +2,35 @@
 use nl_folders::FolderError;
 use nl_types::VolError;
 use std::alloc::{AllocError, AllocFailed, Global};
-use std::io;
+use std::{fmt, io};
 
-/// Why a command isn't done. What it is about stays as it was.
+/// The status of a command that is refused.
+pub const REFUSED: u8 = 2;
+
+/// The status of one that has changed something, and isn't done whole.
+pub const PARTLY: u8 = 3;
+
+/// Why a command isn't done, or not whole.
 #[derive(Drop)]
 pub enum Fault {
-    /// This is wrong.
+    /// This is wrong. What the command is about stays as it was.
     Told(String),
-    /// There is no memory.
+    /// There is no memory. All stays as it was.
     Memory,
-    /// Standard output failed.
+    /// Standard output failed. All stays as it was.
     Output(io::Error),
+    /// Standard output failed behind a change, and this is what was done.
+    Behind(String, io::Error),
+}
+
+impl Fault {
+    /// The program's status.
+    pub fn status(&self) -> u8 {
+        match self {
+            Fault::Told(_) | Fault::Memory | Fault::Output(_) => REFUSED,
+            Fault::Behind(_, _) => PARTLY,
+        }
+    }
 }
 
 impl From<AllocError> for Fault {
@@ -37,6 +55,25 @@ impl From<io::Error> for Fault {
     }
 }
 
+/// A text that isn't ours, as a line on standard error has it: control characters are escaped, which would do
+/// harm at a terminal.
+#[derive(Clone, Copy)]
+pub struct Escaped<'a>(pub &'a str);
+
+impl fmt::Display for Escaped<'_> {
+    fn fmt<W: fmt::Write>(&self, f: &mut fmt::Formatter<W>) -> fmt::Result {
+        let Escaped(text) = *self;
+        for character in text.chars() {
+            if character.is_control() {
+                write!(f, "\\u{{{:x}}}", u32::from(character))?;
+            } else {
+                write!(f, "{character}")?;
+            }
+        }
+        Ok(())
+    }
+}
+
 /// What is wrong, by a text for which memory may have lacked.
 pub fn told(text: Result<String, AllocError>) -> Fault {
     match text {
@@ -47,6 +84,7 @@ pub fn told(text: Result<String, AllocError>) -> Fault {
 
 /// What is wrong with what stands at a path, or with a word.
 pub fn fault_at(alloc: Global, path: &str, what: &str) -> Fault {
+    let path = Escaped(path);
     told(format!(in alloc; "{path}: {what}"))
 }
 
@@ -55,6 +93,7 @@ pub fn system_fault(alloc: Global, path: &str, what: &str, error: &io::Error) ->
     if error.kind() == io::ErrorKind::OutOfMemory {
         return Fault::Memory;
     }
+    let path = Escaped(path);
     told(format!(in alloc; "{path}: {what}: {error}"))
 }
 
@@ -68,7 +107,10 @@ pub fn volume_fault(alloc: Global, image: &str, error: VolError) -> Fault {
             "is no image of a volume, or a damaged one",
         ),
         VolError::NoSpace => fault_at(alloc, image, "is full"),
-        _ => told(format!(in alloc; "{image}: {error}")),
+        _ => {
+            let image = Escaped(image);
+            told(format!(in alloc; "{image}: {error}"))
+        }
     }
 }
 

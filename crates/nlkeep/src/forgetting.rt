@@ -1,104 +1,63 @@
 //! `forget`: checkpoints are removed, snapshots too.
 use crate::asking::{Clock, Outcome, moment, most, word};
-use crate::faults::{Fault, fault_at, volume_fault};
-use crate::images::{device_for, read_image, save_image, take_place};
+use crate::faults::{Fault, fault_at, told, volume_fault};
+use crate::images::{device_for, read_image, take_place};
 use crate::printing::Printer;
+use crate::telling::{News, done_to};
 use crate::views::View;
 use clap::ArgMatches;
 use nl_keep_pen::{Round, RoundIfShort, forget_image};
 use nl_saving::SavePlace;
 use nl_types::{CheckpointNumber, Row, decimal};
+use nl_words::{Numbers, going, names_any, staying};
 use std::alloc::Global;
-use std::io::{self, Write};
+use std::io::Write;
 
-/// The first and the last number of a range.
-#[derive(Clone, Copy)]
-struct Numbers {
-    first: u64,
-    last: u64,
-}
-
-impl Numbers {
-    /// Those that a word says: `5`, or `2..5`.
-    fn said(word: &str) -> Option<Numbers> {
-        match word.split_once("..") {
-            Some((first, last)) => Some(Numbers {
-                first: decimal(first)?,
-                last: decimal(last)?,
-            }),
-            None => {
-                let number = decimal(word)?;
-                Some(Numbers {
-                    first: number,
-                    last: number,
-                })
-            }
+/// The numbers that a word says: `5`, or `2..5`.
+fn numbers_of(word: &str) -> Option<Numbers> {
+    match word.split_once("..") {
+        Some((first, last)) => Some(Numbers {
+            first: decimal(first)?,
+            last: decimal(last)?,
+        }),
+        None => {
+            let number = decimal(word)?;
+            Some(Numbers {
+                first: number,
+                last: number,
+            })
         }
     }
+}
 
-    fn has(self, number: CheckpointNumber) -> bool {
-        self.first <= number.get() && number.get() <= self.last
+/// Sees to it that a range names a kept checkpoint, and none that stays.
+fn judge(alloc: Global, word: &str, range: &Numbers, rows: &[Row]) -> Result<(), Fault> {
+    if !names_any(range, rows) {
+        return Err(fault_at(alloc, word, "no such checkpoint is kept"));
+    }
+    match staying(range, rows) {
+        Some(number) => Err(told(format!(in alloc;
+            "{word}: checkpoint {} is the latest and stays",
+            number.get()
+        ))),
+        None => Ok(()),
     }
 }
 
-/// Why a word names no checkpoint that may go, if it doesn't. `earlier` are those but the latest.
-fn why_none(range: Numbers, earlier: &[Row], latest: CheckpointNumber) -> Option<&'static str> {
-    if earlier.iter().any(|row| range.has(row.number)) {
-        None
-    } else if range.has(latest) {
-        Some("the latest checkpoint stays")
-    } else {
-        Some("no such checkpoint is kept")
-    }
-}
-
-/// The ranges that words say, each of which has a kept checkpoint that may go.
-fn ranges_said(
-    alloc: Global,
-    words: &[&str],
-    earlier: &[Row],
-    latest: CheckpointNumber,
-) -> Result<Vec<Numbers>, Fault> {
+/// The ranges that words say, each of which names kept checkpoints, and none that stays.
+fn ranges_said(alloc: Global, words: &[&str], rows: &[Row]) -> Result<Vec<Numbers>, Fault> {
     let mut ranges = Vec::with_capacity(alloc, words.len())?;
     for word in words {
-        let Some(range) = Numbers::said(word) else {
+        let Some(range) = numbers_of(word) else {
             return Err(fault_at(alloc, word, "neither a number nor two with .. between them"));
         };
-        if let Some(what) = why_none(range, earlier, latest) {
-            return Err(fault_at(alloc, word, what));
-        }
+        judge(alloc, word, &range, rows)?;
         ranges.push(range)?;
     }
     Ok(ranges)
 }
 
-/// The checkpoints in the ranges.
-fn going(
-    alloc: Global,
-    ranges: &[Numbers],
-    earlier: &[Row],
-) -> Result<Vec<CheckpointNumber>, Fault> {
-    let mut going = Vec::new(alloc);
-    for row in earlier {
-        if ranges.iter().any(|range| range.has(row.number)) {
-            going.push(row.number)?;
-        }
-    }
-    Ok(going)
-}
-
-/// The checkpoints that words mean.
-fn numbers_in(alloc: Global, words: &[&str], rows: &[Row]) -> Result<Vec<CheckpointNumber>, Fault> {
-    match rows {
-        [earlier @ .., latest] => {
-            let ranges = ranges_said(alloc, words, earlier, latest.number)?;
-            going(alloc, ranges.as_slice(), earlier)
-        }
-        [] => Ok(Vec::new(alloc)),
-    }
-}
-
-/// The same of an image. A late date is told.
+/// The checkpoints of an image that are to be forgotten, one after another. A late date is told.
 fn numbers_said(
     rt: &HostRuntime,
     path: &str,
@@ -107,7 +66,9 @@ fn numbers_said(
     clock: &Clock<'_>,
 ) -> Result<Vec<CheckpointNumber>, Fault> {
     let view = View::of(rt, path, image, clock)?;
-    numbers_in(rt.alloc(), words, view.rows.as_slice())
+    let rows = view.rows.as_slice();
+    let ranges = ranges_said(rt.alloc(), words, rows)?;
+    Ok(going(rt.alloc(), ranges.as_slice(), rows)?)
 }
 
 /// The image without checkpoints.
@@ -126,9 +87,13 @@ fn without(
     }
 }
 
-fn tell_removed<W: Write>(count: usize, printer: &mut Printer<W>) -> io::Result<()> {
+/// What is told of so many checkpoints that were removed.
+fn told_of(alloc: Global, count: usize) -> Result<News, Fault> {
     let ending = if count == 1 { "" } else { "s" };
-    writeln!(printer.out, "{count} checkpoint{ending} removed")
+    let mut text = Vec::new(alloc);
+    writeln!(text, "{count} checkpoint{ending} removed")?;
+    let done = done_to(alloc, count as u64, "removed")?;
+    Ok(News { text, done })
 }
 
 /// Removes checkpoints of an image, and saves it.
@@ -142,9 +107,8 @@ fn forget_numbers<W: Write>(
     printer: &mut Printer<W>,
 ) -> Result<Outcome, Fault> {
     let next = without(rt.alloc(), path, image, numbers, moment)?;
-    let saved = save_image(rt, path, place, next.as_slice())?;
-    tell_removed(numbers.len(), printer)?;
-    Ok(saved)
+    let news = told_of(rt.alloc(), numbers.len())?;
+    news.save(rt, path, place, next.as_slice(), printer)
 }
 
 fn forget_in<W: Write>(

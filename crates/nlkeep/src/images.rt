@@ -6,26 +6,26 @@ ghost use Rattle.nl_image.specs.Reading.{IsRefusal};
 ghost use Rattle.nl_core.specs.Opened.{IsOpenRefusal};
 
 use crate::asking::Outcome;
+use crate::clearing::clear;
 use crate::faults::{Fault, fault_at, system_fault, told, volume_fault};
-use crate::printing::Printer;
+use crate::image_files::{Purpose, read_for};
 use crate::sums::PlannedSum;
 use nl_core::{Pen, geometry_of, open};
 use nl_device::MemDevice;
 use nl_keep_pen::PenVolume;
-use nl_saving::{FileFault, InUse, SavePlace, Saved, read_file};
+use nl_saving::{InUse, SavePlace, Saved};
 use nl_types::VolError;
 use std::alloc::Global;
 use std::fs::File;
-use std::io::Write;
+use std::io::ErrorKind;
+use std::path::Path;
 use std::rt::Files;
 
-/// The bytes of an image.
+/// The bytes of an image that is to be opened. Of a file that hasn't the length of one there are so many that
+/// they fail the same condition.
 pub fn read_image<R: AllocGlobal + Files>(rt: &R, path: &str) -> Result<Vec<u8>, Fault> {
-    match read_file(rt, path.as_bytes()) {
-        Ok(image) => Ok(image),
-        Err(FileFault::Unread) => Err(fault_at(rt.alloc(), path, "cannot be read")),
-        Err(FileFault::Refused(error)) => Err(volume_fault(rt.alloc(), path, error)),
-    }
+    let read = read_for(rt, path, Purpose::Opening)?;
+    Ok(read.bytes)
 }
 
 fn device_of(alloc: Global, image: &[u8]) -> Result<MemDevice, VolError>
@@ -89,7 +89,8 @@ pub fn save_image(
     place: &mut SavePlace<'_>,
     image: &[u8],
 ) -> Result<Outcome, Fault> {
-    let sum = PlannedSum::of(rt.alloc(), path, image)?;
+    let sum = PlannedSum::of(rt, path, image)?;
+    clear(rt, place, sum.image.as_str(), sum.path.as_str())?;
     save_with(rt, path, place, image, &sum)
 }
 
@@ -101,26 +102,24 @@ fn save_with(
     sum: &PlannedSum,
 ) -> Result<Outcome, Fault> {
     match place.save(rt, image) {
-        Ok(Saved::There) => Ok(sum.save(rt, path)),
+        Ok(Saved::There) => Ok(sum.save(rt)),
         Ok(Saved::Beside(side)) => Err(changed_fault(rt.alloc(), path, side.as_str())),
+        Err(error) if error.kind() == ErrorKind::AlreadyExists => {
+            Err(taken_fault(rt.alloc(), path, sum.image.as_path()))
+        }
         Err(error) => Err(system_fault(rt.alloc(), path, "cannot be written", &error)),
     }
 }
 
-/// The same, and tells then what was put together before.
-pub fn save_told<W: Write>(
-    rt: &HostRuntime,
-    path: &str,
-    place: &mut SavePlace<'_>,
-    image: &[u8],
-    text: &[u8],
-    printer: &mut Printer<W>,
-) -> Result<Outcome, Fault> {
-    let saved = save_image(rt, path, place, image)?;
-    printer.out.write_all(text)?;
-    Ok(saved)
-}
-
 fn changed_fault(alloc: Global, path: &str, side: &str) -> Fault {
     told(format!(in alloc; "{path}: was changed by another program: this volume is in {side}"))
+}
+
+/// No name is free for the new file of an image.
+fn taken_fault(alloc: Global, path: &str, image: Path<'_>) -> Fault {
+    let name = image.file_name().unwrap_or("");
+    told(format!(in alloc;
+        "{path}: cannot be written: beside it stand .{name}.nlvol-save-0 to .{name}.nlvol-save-99: \
+         move away those that are worth keeping, and remove the others"
+    ))
 }

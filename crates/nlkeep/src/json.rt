@@ -1,5 +1,5 @@
-//! Objects of JSON, one a line, in the place of texts. Names that aren't UTF-8 have U+FFFD in the place of what is
-//! none.
+//! Objects of JSON, one a line, in the place of texts. Names that aren't UTF-8 have U+FFFD in the place of
+//! what is none.
 use crate::checkpoints::is_minor;
 use crate::faults::Fault;
 use crate::printing::{Printer, Seen};
@@ -8,9 +8,35 @@ use nl_manifests::{Attributes, HostDifference, HostObject, Time};
 use nl_types::{Mode, Row};
 use serde::Serialize;
 use std::alloc::{AllocError, Global};
-use std::io::Write;
+use std::io::{self, Write};
 
-/// Writes an object and the end of the line. `<` is escaped, so that no text ends an element of HTML around it.
+/// What stands in an object of JSON as it is. Of control characters the library escapes those below a space
+/// alone, and `<` would end an element of HTML around it.
+fn is_plain(character: char) -> bool {
+    character != '<' && !character.is_control()
+}
+
+/// An object with all of its characters plain. Others stand in its texts alone.
+fn escaped(alloc: Global, text: &str) -> io::Result<Vec<u8>> {
+    let mut bytes = Vec::with_capacity(alloc, text.len())?;
+    for character in text.chars() {
+        if is_plain(character) {
+            write!(bytes, "{character}")?;
+        } else {
+            write!(bytes, "\\u{:04x}", u32::from(character))?;
+        }
+    }
+    Ok(bytes)
+}
+
+fn write_escaped<W: Write>(alloc: Global, text: &str, printer: &mut Printer<W>) -> io::Result<()> {
+    if text.chars().all(is_plain) {
+        return printer.out.write_all(text.as_bytes());
+    }
+    printer.out.write_all(escaped(alloc, text)?.as_slice())
+}
+
+/// Writes an object and the end of the line, with all control characters escaped.
 pub fn object<T: Serialize, W: Write>(
     alloc: Global,
     value: &T,
@@ -18,8 +44,8 @@ pub fn object<T: Serialize, W: Write>(
 ) -> Result<(), Fault> {
     match serde_json::to_string(alloc, value) {
         Ok(text) => {
-            let text = text.replace(alloc, '<', "\\u003c")?;
-            writeln!(printer.out, "{text}")?;
+            write_escaped(alloc, text.as_str(), printer)?;
+            printer.line()?;
             Ok(())
         }
         // Nothing but memory lacks where numbers and texts are written.

@@ -5,10 +5,10 @@ use crate::asking::{Clock, Outcome, word};
 use crate::checkpoints::is_minor;
 use crate::comparing::Comparing;
 use crate::df::df;
-use crate::faults::{Fault, tree_fault};
+use crate::faults::{Fault, volume_fault};
 use crate::history::{find, history};
 use crate::json::{CheckpointObject, PlacedObject, object};
-use crate::moments::shown;
+use crate::moments::{shown, shown_in_zone};
 use crate::outline::{Shown, du, nothing_there, tree};
 use crate::parts::path_said;
 use crate::printing::{Printer, Seen, tell_no_pins};
@@ -30,7 +30,7 @@ fn kind(row: &Row) -> &'static str {
     }
 }
 
-/// How much the tree of a checkpoint has. Where it has the tree of the one before, that isn't looked at again.
+/// How much a checkpoint shows. Where it has the tree of the one before, that isn't looked at again.
 pub fn amount_behind(
     alloc: Global,
     view: &View<'_>,
@@ -43,9 +43,10 @@ pub fn amount_behind(
         }
         _ => {}
     }
-    match amount_of(alloc, view.volume(), number) {
+    let shown = view.shown_tree(alloc, number)?;
+    match amount_of(alloc, view.volume(), number, shown.as_slice()) {
         Ok(amount) => Ok(amount),
-        Err(error) => Err(tree_fault(alloc, view.path, error)),
+        Err(error) => Err(volume_fault(alloc, view.path, error)),
     }
 }
 
@@ -125,7 +126,7 @@ impl Asked<'_, '_> {
         counted: Option<&Counted>,
         printer: &mut Printer<W>,
     ) -> Result<(), Fault> {
-        let date = shown(self.alloc, &self.clock.zone, row.stamp)?;
+        let date = shown_in_zone(self.alloc, &self.clock.zone, row.stamp)?;
         printer.row(row, date.as_str(), pin, counted)?;
         Ok(())
     }
@@ -191,7 +192,7 @@ impl Asked<'_, '_> {
             let path = path.as_slice();
             if begins_with(path, top) {
                 let seen = self.view.seen_entry(self.alloc, shown.number, path, entry)?;
-                self.tell_entry(&path[top.len()..], &seen, printer)?;
+                self.tell_entry(path, &seen, printer)?;
                 is_there = true;
             }
         }
@@ -204,6 +205,7 @@ impl Asked<'_, '_> {
         if self.tell_entries(&shown, printer)? {
             Ok(shown.outcome(rt))
         } else {
+            let _ = shown.outcome(rt);
             Err(nothing_there(self.alloc, self.matches))
         }
     }
@@ -234,14 +236,16 @@ fn cat<W: Write>(
     Ok(Outcome::Done)
 }
 
-/// Tells what differs from one checkpoint to another, at and below a path.
+/// Tells what differs from one checkpoint to another, at and below a path. A manifest that is none is told
+/// too; where nothing differs beside that, so is the status.
 fn diff<W: Write>(
-    alloc: Global,
+    rt: &HostRuntime,
     matches: &ArgMatches<'_>,
     clock: &Clock<'_>,
     view: &View<'_>,
     printer: &mut Printer<W>,
 ) -> Result<Outcome, Fault> {
+    let alloc = rt.alloc();
     let old = number_said(alloc, matches, "A", clock, view)?;
     let new = number_said(alloc, matches, "B", clock, view)?;
     let top = path_said(alloc, word(matches, "PATH"))?;
@@ -252,9 +256,11 @@ fn diff<W: Write>(
         top: top.as_slice(),
         is_json: matches.get_flag("json"),
     };
-    Ok(match comparing.tell(alloc, printer)? {
-        0 => Outcome::Done,
-        _ => Outcome::Differs,
+    let (count, are_good) = comparing.tell_judged(rt, printer)?;
+    Ok(if count == 0 {
+        Outcome::of(are_good)
+    } else {
+        Outcome::Differs
     })
 }
 
@@ -279,7 +285,7 @@ fn look_at<W: Write>(
         "list" => asked.list(rt, printer),
         "ls" => asked.ls(rt, printer),
         "cat" => cat(alloc, matches, clock, view, printer),
-        "diff" => diff(alloc, matches, clock, view, printer),
+        "diff" => diff(rt, matches, clock, view, printer),
         "history" => history(alloc, matches, clock, view, printer),
         "df" => df(alloc, matches, view, printer),
         "show" => show(alloc, clock, view, printer),

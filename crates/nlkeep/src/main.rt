@@ -7,20 +7,28 @@ mod asking;
 mod backup;
 mod checking;
 mod checkpoints;
+mod clearing;
 mod comparing;
 mod copying;
 mod df;
+mod excluding;
 mod faults;
 mod forgetting;
+mod fullness;
+mod gauge;
 mod grafting;
 mod history;
+mod image_files;
 mod images;
 mod json;
+mod lasting;
 mod looking;
 mod making;
+mod manifests;
 mod moments;
 mod options;
 mod outline;
+mod own_files;
 mod page;
 mod parts;
 mod pinning;
@@ -35,23 +43,22 @@ mod showing;
 mod sizes;
 mod storing;
 mod sums;
+mod telling;
 mod unpacking;
 mod verdicts;
 mod views;
 
 use asking::{Clock, Outcome};
 use clap::ArgMatches;
-use faults::Fault;
+use faults::{Fault, REFUSED};
 use jiff::tz::TimeZone;
 use moments::{Zones, now};
+use nl_saving::StandIns;
 use options::program;
 use printing::Printer;
 use std::io::{BufWriter, IsTerminal, Write};
 use std::process::ExitCode;
 use std::{env, io};
-
-/// The status of a command that is refused.
-const REFUSED: u8 = 2;
 
 /// Does a command.
 fn done<W: Write>(
@@ -76,7 +83,31 @@ fn done<W: Write>(
     }
 }
 
-/// Does a command, and writes what is left of what it tells. Answers the status.
+/// Does a command, and writes what is left of what it tells. A command that saves an image leaves nothing.
+fn done_and_told<W: Write>(
+    rt: &HostRuntime,
+    name: &str,
+    matches: &ArgMatches<'_>,
+    clock: &Clock<'_>,
+    printer: &mut Printer<W>,
+) -> Result<Outcome, Fault> {
+    let outcome = done(rt, name, matches, clock, printer)?;
+    printer.out.flush()?;
+    Ok(outcome)
+}
+
+/// Why `rescue` isn't done whole. Where standard output fails, something was laid out before.
+fn rescue_fault(rt: &HostRuntime, matches: &ArgMatches<'_>, fault: Fault) -> Fault {
+    let error = match fault {
+        Fault::Output(error) => error,
+        fault => return fault,
+    };
+    let folder = matches.get_str("FOLDER").unwrap_or("");
+    let done = format!(in rt.alloc(); "{folder} has what was rescued so far");
+    Fault::Behind(done.unwrap_or(String::new(rt.alloc())), error)
+}
+
+/// Does a command, and answers the status.
 fn status_of<W: Write>(
     rt: &HostRuntime,
     name: &str,
@@ -84,9 +115,11 @@ fn status_of<W: Write>(
     clock: &Clock<'_>,
     printer: &mut Printer<W>,
 ) -> Result<u8, Fault> {
-    let outcome = done(rt, name, matches, clock, printer)?;
-    printer.out.flush()?;
-    Ok(outcome.status())
+    match done_and_told(rt, name, matches, clock, printer) {
+        Ok(outcome) => Ok(outcome.status()),
+        Err(fault) if name == "rescue" => Err(rescue_fault(rt, matches, fault)),
+        Err(fault) => Err(fault),
+    }
 }
 
 /// Does a command by the clock as a zone has it, and answers the status.
@@ -121,8 +154,9 @@ fn tell_fault(rt: &HostRuntime, fault: &Fault) -> u8 {
         Fault::Told(text) => eprintln!(rt; "nlkeep: {text}"),
         Fault::Memory => eprintln!(rt; "nlkeep: there is no memory"),
         Fault::Output(error) => eprintln!(rt; "nlkeep: standard output: {error}"),
+        Fault::Behind(done, error) => { eprintln!(rt; "nlkeep: {done}; standard output: {error}") }
     };
-    REFUSED
+    fault.status()
 }
 
 /// Writes the help or the version, or what is wrong with the words.
@@ -160,12 +194,24 @@ fn run(rt: &HostRuntime) -> io::Result<u8> {
     run_words(rt, words.as_slice())
 }
 
+/// Tells why nothing is done, and answers the status.
+fn refused(rt: &HostRuntime, error: &io::Error) -> u8 {
+    let _ = eprintln!(rt; "nlkeep: {error}");
+    REFUSED
+}
+
 fn main(rt: HostRuntime) -> ExitCode {
-    match run(&rt) {
-        Ok(status) => ExitCode::from(status),
+    let stand_ins = match StandIns::take(&rt) {
+        Ok(stand_ins) => stand_ins,
         Err(error) => {
-            let _ = eprintln!(rt; "nlkeep: {error}");
-            ExitCode::from(REFUSED)
+            let _ = eprintln!(rt; "nlkeep: /dev/null: cannot be opened: {error}");
+            return ExitCode::from(REFUSED);
         }
-    }
+    };
+    let status = match run(&rt) {
+        Ok(status) => status,
+        Err(error) => refused(&rt, &error),
+    };
+    drop(stand_ins);
+    ExitCode::from(status)
 }

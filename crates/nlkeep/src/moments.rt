@@ -10,6 +10,9 @@ use std::time::{SystemTime, UNIX_EPOCH};
 /// How a date is shown.
 const FORM: &str = "%Y-%m-%d %H:%M:%S";
 
+/// The same with how far its zone is from UTC then.
+const ZONE_FORM: &str = "%Y-%m-%d %H:%M:%S%:z";
+
 /// What the system says of time zones. The zone itself borrows from it.
 #[derive(Drop)]
 pub struct Zones {
@@ -64,9 +67,13 @@ pub fn now(rt: &HostRuntime) -> Result<u64, Fault> {
     })
 }
 
+/// A moment in seconds. Those that are too great have no date.
+fn second_of(moment: u64) -> i64 {
+    i64::try_from(moment).unwrap_or(i64::MAX)
+}
+
 fn date_of(zone: &TimeZone<'_>, moment: u64) -> Result<DateTime, Error> {
-    let second = i64::try_from(moment).unwrap_or(i64::MAX);
-    let zoned = Timestamp::from_second(second)?.to_zoned(*zone);
+    let zoned = Timestamp::from_second(second_of(moment))?.to_zoned(*zone);
     Ok(zoned.datetime())
 }
 
@@ -120,6 +127,18 @@ pub fn shown(alloc: Global, zone: &TimeZone<'_>, moment: u64) -> Result<String, 
     }
 }
 
+/// The same with how far the zone is from UTC then, as `+01:00`.
+pub fn shown_in_zone(alloc: Global, zone: &TimeZone<'_>, moment: u64) -> Result<String, Fault> {
+    let Ok(at) = Timestamp::from_second(second_of(moment)) else {
+        return Ok(format!(in alloc; "{moment}")?);
+    };
+    match at.to_zoned(*zone).strftime(alloc, ZONE_FORM) {
+        Ok(text) => Ok(text),
+        // The form is a right one, so memory lacks.
+        Err(_) => Err(Fault::Memory),
+    }
+}
+
 fn last_second_of(date: Date, zone: &TimeZone<'_>) -> Result<i64, Error> {
     let end = DateTime::new(date.year(), date.month(), date.day(), 23, 59, 59, 0)?;
     Ok(end.to_zoned(*zone)?.timestamp().as_second())
@@ -131,21 +150,42 @@ fn yesterday(now: u64, zone: &TimeZone<'_>) -> Result<i64, Error> {
     last_second_of(day, zone)
 }
 
+fn today(now: u64, zone: &TimeZone<'_>) -> Result<i64, Error> {
+    last_second_of(date_of(zone, now)?.date(), zone)
+}
+
+/// The second of a time of a day, in the zone where none is given with it.
+fn second_of_time(word: &str, zone: &TimeZone<'_>) -> Result<i64, Error> {
+    let with_offset: Result<Timestamp, Error> = word.parse();
+    if let Ok(at) = with_offset {
+        return Ok(at.as_second());
+    }
+    let at: DateTime = word.parse()?;
+    Ok(at.to_zoned(*zone)?.timestamp().as_second())
+}
+
 fn second_said(word: &str, now: u64, zone: &TimeZone<'_>) -> Result<i64, Error> {
-    if word == "yesterday" {
-        return yesterday(now, zone);
+    match word {
+        "now" => return Ok(second_of(now)),
+        "today" => return today(now, zone),
+        "yesterday" => return yesterday(now, zone),
+        _ => {}
     }
     if word.contains('T') {
-        let at: DateTime = word.parse()?;
-        return Ok(at.to_zoned(*zone)?.timestamp().as_second());
+        return second_of_time(word, zone);
     }
     let day: Date = word.parse()?;
     last_second_of(day, zone)
 }
 
-/// The moment that a date in the zone says: `2026-11-26T18:00`, or the last second of `2026-11-26` or of
-/// `yesterday`. None where it is no date, or one before 1970.
+/// The moment that a date says: `2026-11-26T18:00` in the zone; the same with `Z` behind it, or with an
+/// offset as `+01:00`; the last second of `2026-11-26`, `today` or `yesterday` in the zone; or `now`. None
+/// where it is no date, or one before 1970.
 pub fn moment_said(word: &str, now: u64, zone: &TimeZone<'_>) -> Option<u64> {
+    if word.contains('[') {
+        // The name of a zone, which the library would pass over.
+        return None;
+    }
     let second = second_said(word, now, zone).ok()?;
     u64::try_from(second).ok()
 }

@@ -4,8 +4,9 @@ use std::alloc::{AllocError, Global};
 
 /// What stands behind the commands in the help.
 const MORE: &str = "\
-CNO is a checkpoint: its number, `latest`, or a date as 2026-11-26, 2026-11-26T18:00 or
-`yesterday`, which means the latest one at or before it.
+CNO is a checkpoint: its number, `latest`, or a date, which means the latest one at or before it:
+2026-11-26, 2026-11-26T18:00, the same with Z or an offset as +01:00, `yesterday`, `today`, `now`.
+A SIZE is as 8M, 8192K or 8388608.
 Status: 0 done, 1 `diff` or `check` found something, 2 refused, 3 done but something was left out.
 Owners are set by `restore --owners` alone. Extended attributes and ACLs are not kept.";
 
@@ -88,6 +89,12 @@ const JSON: Argument<'static> = Argument {
     help: "As objects of JSON, one a line",
 };
 
+const QUIET: Argument<'static> = Argument {
+    name: "quiet",
+    kind: Kind::Letter('q'),
+    help: "Tells the last line alone, and nothing of the work",
+};
+
 const DRY_RUN: Argument<'static> = Argument {
     name: "dry-run",
     kind: Kind::Letter('n'),
@@ -120,6 +127,7 @@ const COMMANDS: &[Form<'static>] = &[
                 help: "Folder to keep",
             },
             DRY_RUN,
+            QUIET,
             Argument {
                 name: "exclude",
                 kind: Kind::Repeated("PATTERN"),
@@ -129,6 +137,11 @@ const COMMANDS: &[Form<'static>] = &[
                 name: "plain",
                 kind: Kind::Flag,
                 help: "Keeps names and bytes alone: no modes, times, owners and links",
+            },
+            Argument {
+                name: "one-file-system",
+                kind: Kind::Flag,
+                help: "Passes over folders on other file systems than FOLDER's",
             },
             MOST,
             MOMENT,
@@ -268,6 +281,7 @@ const COMMANDS: &[Form<'static>] = &[
                 kind: Kind::Word,
                 help: "Path of the file or folder",
             },
+            QUIET,
             MOST,
             MOMENT,
         ],
@@ -280,7 +294,7 @@ const COMMANDS: &[Form<'static>] = &[
     Form {
         name: "untar",
         about: "Keeps an archive from standard input, as the next snapshot",
-        arguments: &[IMAGE, MOST, MOMENT],
+        arguments: &[IMAGE, QUIET, MOST, MOMENT],
     },
     Form {
         name: "copy",
@@ -292,6 +306,7 @@ const COMMANDS: &[Form<'static>] = &[
                 kind: Kind::Word,
                 help: "File that holds the other volume; a new one is made where none is",
             },
+            QUIET,
             MOST,
         ],
     },
@@ -365,6 +380,11 @@ const COMMANDS: &[Form<'static>] = &[
                 help: "The same of years",
             },
             DRY_RUN,
+            Argument {
+                name: "quiet",
+                kind: Kind::Letter('q'),
+                help: "Tells how many were removed, and nothing else",
+            },
             MOMENT,
         ],
     },
@@ -448,14 +468,15 @@ fn library_command(alloc: Global, form: Form<'_>) -> Result<Command<'_>, AllocEr
     with_arguments(alloc, bare, form.arguments)
 }
 
-/// The program without its commands.
-fn bare<'a>(alloc: Global) -> Command<'a> {
+/// The program without its commands. Its name begins the usage of each.
+fn bare<'a>(alloc: Global) -> Result<Command<'a>, AllocError> {
     Command::new(alloc, "nlkeep")
         .about("Keeps folders with their history, in a volume with continuous snapshots")
         .version("0.1.0")
         .after_help(MORE)
         .subcommand_required(true)
         .no_binary_name(true)
+        .bin_name("nlkeep")
 }
 
 fn with_command<'a>(
@@ -472,7 +493,7 @@ fn with_command<'a>(
 /// The program with its commands.
 pub fn program<'a>(alloc: Global) -> Result<Command<'a>, AllocError> {
     let commands = COMMANDS;
-    let mut program = bare(alloc);
+    let mut program = bare(alloc)?;
     for form in commands {
         program = with_command(alloc, program, *form)?;
     }

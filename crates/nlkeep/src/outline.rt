@@ -2,6 +2,7 @@
 use crate::asking::{Clock, Outcome, word};
 use crate::faults::{Fault, fault_at};
 use crate::json::{object, path_text};
+use crate::manifests::tell_bad_manifests;
 use crate::parts::path_said;
 use crate::printing::{Printer, Seen, tell_refused};
 use crate::views::View;
@@ -51,14 +52,8 @@ impl Shown {
             let path = path.as_slice();
             if begins_with(path, top) {
                 let seen = view.seen_entry(alloc, self.number, path, entry)?;
-                let rest = &path[top.len()..];
-                let depth = rest.len();
-                all.push(Below {
-                    path,
-                    rest,
-                    depth,
-                    seen,
-                })?;
+                let depth = path.len().saturating_sub(top.len());
+                all.push(Below { path, depth, seen })?;
             }
         }
         Ok(all)
@@ -78,9 +73,11 @@ impl Shown {
         Ok(all)
     }
 
-    /// Tells the lines of manifests there that show nothing.
+    /// Tells the manifests that are none, and the lines of others there that show nothing.
     pub fn outcome(&self, rt: &HostRuntime) -> Outcome {
-        Outcome::of(tell_refused(rt, self.opened.refused.as_slice(), self.top.as_slice()))
+        let (shown, top) = (self.opened.tree.as_slice(), self.top.as_slice());
+        let are_good = tell_bad_manifests(rt, shown, top, None);
+        Outcome::of(tell_refused(rt, self.opened.refused.as_slice(), top) && are_good)
     }
 }
 
@@ -88,9 +85,7 @@ impl Shown {
 #[derive(Clone, Copy)]
 struct Below<'s> {
     path: &'s [Name],
-    /// What is left of the path there.
-    rest: &'s [Name],
-    /// How many names that has.
+    /// How many names it has behind the path where a command looks.
     depth: usize,
     seen: Seen<'s>,
 }
@@ -138,16 +133,14 @@ impl<W: Write> Printer<W> {
         self.out.write_all(text.as_bytes())
     }
 
-    /// An entry with its branch.
+    /// An entry by its name with its branch, and the first one by its path.
     fn outline(&mut self, below: &Below<'_>, above: &[bool], is_last: bool) -> io::Result<()> {
         match below.path {
-            [.., name] => {
-                if below.depth > 0 {
-                    self.branch(above, is_last)?;
-                }
+            [.., name] if below.depth > 0 => {
+                self.branch(above, is_last)?;
                 self.named(name.as_slice(), &below.seen)?;
             }
-            [] => self.named(b"", &below.seen)?,
+            _ => self.place(below.path, &below.seen)?,
         }
         self.line()
     }
@@ -219,7 +212,7 @@ impl<W: Write> Printer<W> {
     /// How many bytes lie at and below a path, in a line.
     fn sum(&mut self, below: &Below<'_>, sum: u64) -> io::Result<()> {
         write!(self.out, "{sum:>10}  ")?;
-        self.path(below.rest, is_folder(below))?;
+        self.path(below.path, is_folder(below))?;
         self.line()
     }
 }

@@ -37,10 +37,11 @@ svg text { fill: var(--quiet); font-size: 14px }
 table { border-collapse: collapse; width: 100% }
 th, td {
   text-align: left; padding: .2rem .6rem; border-bottom: 1px solid var(--line); vertical-align: top;
-  overflow-wrap: anywhere;
+  overflow-wrap: break-word;
 }
 .n { text-align: right; white-space: nowrap }
-td:nth-child(2) { white-space: nowrap }
+.date { white-space: nowrap }
+.path, details { overflow-wrap: anywhere }
 ul { margin: .2rem 0; padding-left: 1.2rem }
 tr:target { outline: 2px solid var(--needed) }
 .quiet { color: var(--quiet) }
@@ -60,6 +61,17 @@ tr:target { outline: 2px solid var(--needed) }
 .key.clean { background: var(--clean); border: 1px solid var(--line) }
 .share { width: 40% }
 .bar { background: var(--needed); height: .7rem; min-width: 1px; border-radius: 2px; margin-top: .4rem }
+@media (max-width: 40rem) {
+  thead { display: none }
+  table, tbody, tr, td { display: block }
+  td, td.n { border: 0; padding: 0 0 0 6rem; min-height: 1.5em; text-align: left; white-space: normal }
+  td { overflow-wrap: anywhere }
+  td::before { content: attr(data-name); float: left; margin-left: -6rem; color: var(--quiet) }
+  tr { border-bottom: 1px solid var(--line); padding: .4rem 0 }
+  .share { width: auto }
+  .bar { margin-top: 0; position: relative; top: .4rem }
+  svg text { font-size: 36px }
+}
 </style>
 <noscript><style>nav, main { display: none }</style></noscript>
 </head>
@@ -153,8 +165,13 @@ function add(parent, tag, attributes = {}, text = "") {
   return made;
 }
 
-function addNumber(row, value) {
-  add(row, "td", {class: "n"}, value);
+// Adds a cell of a column, whose name a narrow window shows beside it.
+function addCell(row, name, text = "", kind = "") {
+  return add(row, "td", {class: kind, "data-name": name}, text);
+}
+
+function addNumber(row, name, value) {
+  addCell(row, name, value, "n");
 }
 
 // ---- the data
@@ -240,15 +257,15 @@ function listChanges(cell, changes) {
 
 function addCheckpoint(body, checkpoint, isFirst) {
   const row = add(body, "tr", {id: `c${checkpoint.checkpoint}`});
-  addNumber(row, checkpoint.checkpoint);
-  add(row, "td", {}, checkpoint.date);
-  add(row, "td", {}, kindOf(checkpoint));
-  addNumber(row, checkpoint.paths);
-  addNumber(row, checkpoint.bytes);
+  addNumber(row, "Number", checkpoint.checkpoint);
+  addCell(row, "Date", checkpoint.date, "date");
+  addCell(row, "Kind", kindOf(checkpoint));
+  addNumber(row, "Paths", checkpoint.paths);
+  addNumber(row, "Bytes", checkpoint.bytes);
   if (isFirst || checkpoint.changes.length === 0) {
-    add(row, "td", {}, isFirst ? "the first one" : "none");
+    addCell(row, "Changes", isFirst ? "the first one" : "none");
   } else {
-    listChanges(add(row, "td"), checkpoint.changes);
+    listChanges(addCell(row, "Changes"), checkpoint.changes);
   }
 }
 
@@ -318,9 +335,12 @@ function tellSegments() {
 function fillSegments() {
   segments.forEach((it, place) => {
     const row = add(find("#segments tbody"), "tr");
-    addNumber(row, place);
-    add(row, "td", {}, it.state);
-    [it.needed, it.dead, it.summaries, unusedOf(it)].forEach(count => addNumber(row, count));
+    addNumber(row, "Segment", place);
+    addCell(row, "State", it.state);
+    addNumber(row, "Needed", it.needed);
+    addNumber(row, "Dead", it.dead);
+    addNumber(row, "Summaries", it.summaries);
+    addNumber(row, "Unused", unusedOf(it));
   });
 }
 
@@ -330,10 +350,10 @@ function fillFolders() {
   folders.sort((one, other) => other.bytes - one.bytes);
   for (const it of folders.slice(0, MOST_FOLDERS)) {
     const row = add(find("#folders tbody"), "tr");
-    add(row, "td", {}, it.folder);
-    addNumber(row, it.bytes);
+    addCell(row, "Folder", it.folder, "path");
+    addNumber(row, "Bytes", it.bytes);
     const percent = 100 * it.bytes / Math.max(1, folders[0].bytes);
-    add(add(row, "td", {class: "share"}), "div", {class: "bar", style: `width: ${percent}%`});
+    add(addCell(row, "Share", "", "share"), "div", {class: "bar", style: `width: ${percent}%`});
   }
 }
 

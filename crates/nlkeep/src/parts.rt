@@ -5,11 +5,12 @@ use nl_manifests::{HostObject, HostTree};
 use nl_types::Items;
 use std::alloc::{AllocError, Global};
 
-/// The names that a word says. A slash in front or behind, or one more between two names, says nothing.
+/// The names that a word says. A slash in front or behind, or one more between two names, says nothing, and
+/// neither does a name `.`, which nothing in a volume has.
 pub fn path_said(alloc: Global, word: &str) -> Result<Path, AllocError> {
     let mut path = Items::new(alloc);
     for name in word.split('/') {
-        if !name.is_empty() {
+        if !name.is_empty() && name != "." {
             path.push(Items::from_slice(alloc, name.as_bytes())?)?;
         }
     }

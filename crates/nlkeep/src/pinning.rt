@@ -2,9 +2,10 @@
 use crate::asking::{Clock, Outcome, word};
 use crate::checkpoints::is_minor;
 use crate::faults::{Fault, fault_at};
-use crate::images::{read_image, save_told, take_place};
+use crate::images::{read_image, take_place};
 use crate::printing::Printer;
 use crate::storing::{Keeping, Stores, Wanted, store_in, tell_growth};
+use crate::telling::{News, done_as};
 use crate::views::View;
 use clap::ArgMatches;
 use nl_folders::Tree;
@@ -127,6 +128,7 @@ impl Pinning {
         image: &[u8],
     ) -> Result<Pinning, Fault> {
         let view = View::of(rt, keeping.path, image, clock)?;
+        view.tell_earlier(rt, clock, keeping.moment)?;
         let word = word(matches, "CNO");
         Pinning::in_view(rt.alloc(), &view, word, clock, change, keeping.moment)
     }
@@ -140,7 +142,7 @@ struct Pinned<'a> {
 }
 
 /// What is told of a pin that is changed by a snapshot.
-fn told_of(alloc: Global, stores: &Stores, pinned: &Pinned<'_>) -> Result<Vec<u8>, Fault> {
+fn told_of(alloc: Global, stores: &Stores, pinned: &Pinned<'_>) -> Result<News, Fault> {
     let mut printer = Printer {
         out: Vec::new(alloc),
         is_terminal: false,
@@ -155,11 +157,13 @@ fn told_of(alloc: Global, stores: &Stores, pinned: &Pinned<'_>) -> Result<Vec<u8
         printer.out,
         "snapshot {snapshot}: checkpoint {number} is {what}"
     )?;
-    Ok(printer.out)
+    let text = printer.out;
+    let done = done_as(alloc, snapshot)?;
+    Ok(News { text, done })
 }
 
-/// Stores a tree with other pins in the volume of an image, and saves that. What was done is told once the image
-/// is there.
+/// Stores a tree with other pins in the volume of an image, and saves that. What was done is told once the
+/// image is there.
 fn store<W: Write>(
     rt: &HostRuntime,
     path: &str,
@@ -171,15 +175,8 @@ fn store<W: Write>(
 ) -> Result<Outcome, Fault> {
     let alloc = rt.alloc();
     let stores = store_in(alloc, path, image, wanted)?;
-    let told = told_of(alloc, &stores, pinned)?;
-    save_told(
-        rt,
-        path,
-        place,
-        stores.image.as_slice(),
-        told.as_slice(),
-        printer,
-    )
+    let news = told_of(alloc, &stores, pinned)?;
+    news.save(rt, path, place, stores.image.as_slice(), printer)
 }
 
 fn tell_pinned<W: Write>(
@@ -212,8 +209,8 @@ fn pin_in<W: Write>(
     }
 }
 
-/// Changes the pin of a checkpoint, as the next snapshot, and saves the image. Where it is so already, nothing
-/// changes.
+/// Changes the pin of a checkpoint, as the next snapshot, and saves the image. Where it is so already,
+/// nothing changes.
 pub fn pin<W: Write>(
     rt: &HostRuntime,
     matches: &ArgMatches<'_>,

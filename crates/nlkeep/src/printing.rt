@@ -4,6 +4,7 @@ use nl_folders::{Name, Path, begins_with};
 use nl_host::{LeftOut, Reason};
 use nl_manifests::{Attributes, HostDifference, HostEntry, HostObject, LineFault};
 use std::alloc::{AllocError, Global};
+use std::fmt::Display;
 use std::io::{self, IsTerminal, Write};
 use std::str;
 
@@ -112,7 +113,7 @@ impl<W: Write> Printer<W> {
     }
 
     /// A path, and where it leads to, if it is that of a link.
-    fn place(&mut self, path: &[Name], seen: &Seen<'_>) -> io::Result<()> {
+    pub fn place(&mut self, path: &[Name], seen: &Seen<'_>) -> io::Result<()> {
         self.path(path, is_folder(seen))?;
         self.target(seen)
     }
@@ -278,7 +279,17 @@ pub fn tell_left_out(rt: &HostRuntime, all: &[LeftOut]) {
 }
 
 impl<W: Write> Printer<W> {
+    /// That a file is kept as it was read, though it changed meanwhile.
+    fn changed_file(&mut self, left: &LeftOut) -> io::Result<()> {
+        write!(self.out, "nlkeep: {}: ", left.reason)?;
+        self.text(left.path.as_str())?;
+        self.out.write_all(b": kept as it was read\n")
+    }
+
     fn left_out(&mut self, left: &LeftOut) -> io::Result<()> {
+        if matches!(left.reason, Reason::Changed) {
+            return self.changed_file(left);
+        }
         self.out.write_all(b"nlkeep: left out: ")?;
         self.text(left.path.as_str())?;
         writeln!(self.out, ": {}", left.reason)
@@ -302,8 +313,8 @@ impl<W: Write> Printer<W> {
     }
 }
 
-/// Tells the lines of manifests at and below a path that show nothing, on standard error. Answers whether there
-/// are none.
+/// Tells the lines of manifests at and below a path that show nothing, on standard error. Answers whether
+/// there are none.
 pub fn tell_refused(rt: &HostRuntime, all: &[(Path, LineFault)], top: &[Name]) -> bool {
     let mut printer = Printer {
         out: rt.stderr(),
@@ -330,7 +341,7 @@ pub fn tell_refused_below(
 }
 
 impl<W: Write> Printer<W> {
-    fn path_left_out(&mut self, path: &[Name], reason: Reason) -> io::Result<()> {
+    fn path_left_out<R: Display>(&mut self, path: &[Name], reason: &R) -> io::Result<()> {
         self.out.write_all(b"nlkeep: left out: ")?;
         self.path(path, false)?;
         writeln!(self.out, ": {reason}")
@@ -338,13 +349,13 @@ impl<W: Write> Printer<W> {
 }
 
 /// Tells what is left out of an archive, a line each, on standard error.
-pub fn tell_paths_left_out(rt: &HostRuntime, all: &[(Path, Reason)]) {
+pub fn tell_paths_left_out<R: Display>(rt: &HostRuntime, all: &[(Path, R)]) {
     let mut printer = Printer {
         out: rt.stderr(),
         is_terminal: rt.stderr().is_terminal(),
     };
     for (path, reason) in all {
-        if printer.path_left_out(path.as_slice(), *reason).is_err() {
+        if printer.path_left_out(path.as_slice(), reason).is_err() {
             return;
         }
     }
@@ -353,6 +364,19 @@ pub fn tell_paths_left_out(rt: &HostRuntime, all: &[(Path, Reason)]) {
 /// Tells that the file of pins is none.
 pub fn tell_no_pins(rt: &HostRuntime) {
     let _ = eprintln!(rt; "nlkeep: left out: /.nlkeep-pins: a file of pins that is none");
+}
+
+/// The last line of a text, which is all that a person is told who wants no more.
+pub fn last_line(text: &[u8]) -> &[u8] {
+    let mut begin: usize = 0;
+    for (index, byte) in text.iter().enumerate() {
+        let next = index.saturating_add(1);
+        if *byte == b'\n' && next < text.len() {
+            begin = next;
+        }
+    }
+    let (_, line) = text.split_at(begin.min(text.len()));
+    line
 }
 
 /// A path of a volume for a line on standard error, where control characters of names would do harm.

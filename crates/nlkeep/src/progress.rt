@@ -1,5 +1,6 @@
-//! What is told of work that takes more than a second, on standard error where that is a terminal.
+//! What is told of the work that is done, on standard error where that is a terminal.
 use crate::sizes::Size;
+use clap::ArgMatches;
 use nl_host::Watching;
 use std::io::IsTerminal;
 use std::time::Instant;
@@ -10,18 +11,26 @@ pub struct Progress<'a> {
     rt: &'a HostRuntime,
     /// When the work began. None where nobody is told.
     begun: Option<Instant>,
-    /// How many seconds had gone when something was told last.
+    /// How many seconds had gone when it was told last how much was read.
     told: u64,
+    /// Whether something that was told stands there.
+    is_shown: bool,
 }
 
 impl<'a> Progress<'a> {
-    pub fn begin(rt: &'a HostRuntime) -> Progress<'a> {
-        let begun = if rt.stderr().is_terminal() {
+    /// Nobody is told where no terminal is, nor with `-q`.
+    pub fn begin(rt: &'a HostRuntime, matches: &ArgMatches<'_>) -> Progress<'a> {
+        let begun = if rt.stderr().is_terminal() && !matches.get_flag("quiet") {
             Instant::now(rt).ok()
         } else {
             None
         };
-        Progress { rt, begun, told: 0 }
+        Progress {
+            rt,
+            begun,
+            told: 0,
+            is_shown: false,
+        }
     }
 
     /// Whether a second has gone since something was told, or since the work began.
@@ -46,20 +55,27 @@ impl<'a> Progress<'a> {
         }
         let size = Size(bytes);
         let _ = eprint!(self.rt; "\rreading: {files} files, {size}\u{1b}[K");
+        self.is_shown = true;
     }
 
     /// Tells what is done now, in the place of what was told before.
     pub fn tell(&mut self, what: &str) {
-        if self.is_due() {
+        if self.begun.is_some() {
             let _ = eprint!(self.rt; "\r{what}\u{1b}[K");
+            self.is_shown = true;
         }
+    }
+
+    /// Whether something that was told stands there.
+    pub fn is_shown(&self) -> bool {
+        self.is_shown
     }
 
     /// Takes away what was told.
     pub fn end(&mut self) {
-        if self.told > 0 {
+        if self.is_shown {
             let _ = eprint!(self.rt; "\r\u{1b}[K");
-            self.told = 0;
+            self.is_shown = false;
         }
     }
 }

@@ -2,9 +2,10 @@
 use crate::asking::{Clock, Outcome, moment, word};
 use crate::checkpoints::is_minor;
 use crate::faults::{Fault, fault_at, volume_fault};
-use crate::images::{device_for, open_image, read_image, save_told, take_place};
+use crate::images::{device_for, open_image, read_image, take_place};
 use crate::moments::{periods, shown};
 use crate::printing::Printer;
+use crate::telling::{News, done_to};
 use crate::views::View;
 use clap::ArgMatches;
 use jiff::tz::TimeZone;
@@ -22,7 +23,7 @@ fn count_said(alloc: Global, matches: &ArgMatches<'_>, rule: &str) -> Result<u64
     };
     match decimal(word) {
         Some(count) => Ok(count),
-        None => Err(fault_at(alloc, word, "no number of checkpoints")),
+        None => Err(fault_at(alloc, word, "no number of checkpoints, as 7")),
     }
 }
 
@@ -37,16 +38,23 @@ fn rules_said(alloc: Global, matches: &ArgMatches<'_>) -> Result<Rules, Fault> {
         yearly: count_said(alloc, matches, "yearly")?,
     };
     if rules == Rules::default() {
-        return Err(fault_at(
-            alloc,
-            "prune",
-            "no rule is given: --last, --hourly, --daily, --weekly, --monthly or --yearly",
-        ));
+        return Err(fault_at(alloc, "prune", no_rule_text(matches)));
     }
     Ok(rules)
 }
 
-/// The checkpoints as rules see them, the newest first. Minor ones are the cleaner's, and no rule counts them.
+/// What is wrong where no rule keeps anything.
+fn no_rule_text(matches: &ArgMatches<'_>) -> &'static str {
+    let rules = ["last", "hourly", "daily", "weekly", "monthly", "yearly"];
+    if rules.iter().any(|rule| matches.get_str(*rule).is_some()) {
+        "no rule keeps a checkpoint: one of them needs a number above 0, as --last 7"
+    } else {
+        "no rule is given: --last, --hourly, --daily, --weekly, --monthly or --yearly"
+    }
+}
+
+/// The checkpoints as rules see them, the newest first. Minor ones are the cleaner's, and no rule counts
+/// them.
 fn dated_rows(
     alloc: Global,
     rows: &[Row],
@@ -66,7 +74,8 @@ fn dated_rows(
     Ok(dated)
 }
 
-/// The checkpoints that are not pinned, and that no rule keeps.
+/// The checkpoints that are not pinned, and that no rule keeps: a checkpoint counts for each rule that keeps
+/// it, as with restic's `forget`, and checkpoint 1, the empty one, counts as any other.
 fn unkept(
     alloc: Global,
     rules: &Rules,
@@ -142,6 +151,18 @@ fn without(
     }
 }
 
+/// Tells how many checkpoints no rule keeps.
+fn tell_count<W: Write>(
+    pruning: &Pruning,
+    what: &str,
+    printer: &mut Printer<W>,
+) -> Result<(), Fault> {
+    let count = pruning.going.len();
+    let ending = if count == 1 { "" } else { "s" };
+    writeln!(printer.out, "{count} checkpoint{ending} {what}")?;
+    Ok(())
+}
+
 /// Tells which checkpoints no rule keeps, and how many they are.
 fn tell_all<W: Write>(
     alloc: Global,
@@ -151,10 +172,7 @@ fn tell_all<W: Write>(
     printer: &mut Printer<W>,
 ) -> Result<(), Fault> {
     pruning.tell(alloc, zone, printer)?;
-    let count = pruning.going.len();
-    let ending = if count == 1 { "" } else { "s" };
-    writeln!(printer.out, "{count} checkpoint{ending} {what}")?;
-    Ok(())
+    tell_count(pruning, what, printer)
 }
 
 /// What `prune` is asked.
@@ -164,6 +182,8 @@ struct Asked<'a> {
     path: &'a str,
     rules: Rules,
     moment: u64,
+    /// Whether only the number of what was removed is told.
+    is_quiet: bool,
 }
 
 impl<'a> Asked<'a> {
@@ -176,6 +196,7 @@ impl<'a> Asked<'a> {
             path: word(matches, "IMAGE"),
             rules: rules_said(rt.alloc(), matches)?,
             moment: moment(rt, matches, clock.now)?,
+            is_quiet: matches.get_flag("quiet"),
         })
     }
 
@@ -206,6 +227,9 @@ impl<'a> Asked<'a> {
         zone: &TimeZone<'_>,
         printer: &mut Printer<W>,
     ) -> Result<(), Fault> {
+        if self.is_quiet {
+            return tell_count(pruning, "would be removed", printer);
+        }
         tell_all(alloc, pruning, zone, "would be removed", printer)?;
         if pruning.going.is_empty() {
             return Ok(());
@@ -234,14 +258,20 @@ impl<'a> Asked<'a> {
         pruning: &Pruning,
         image: &[u8],
         zone: &TimeZone<'_>,
-    ) -> Result<Vec<u8>, Fault> {
+    ) -> Result<News, Fault> {
         let mut printer = Printer {
             out: Vec::new(alloc),
             is_terminal: false,
         };
-        tell_all(alloc, pruning, zone, "removed", &mut printer)?;
-        tell_clean(alloc, self.path, image, "are", &mut printer)?;
-        Ok(printer.out)
+        if self.is_quiet {
+            tell_count(pruning, "removed", &mut printer)?;
+        } else {
+            tell_all(alloc, pruning, zone, "removed", &mut printer)?;
+            tell_clean(alloc, self.path, image, "are", &mut printer)?;
+        }
+        let text = printer.out;
+        let done = done_to(alloc, pruning.going.len() as u64, "removed")?;
+        Ok(News { text, done })
     }
 
     fn prune_image<W: Write>(
@@ -258,16 +288,8 @@ impl<'a> Asked<'a> {
             return Ok(Outcome::Done);
         }
         let next = self.next(rt.alloc(), image, pruning)?;
-        // All that is told takes its memory before the image is saved.
-        let told = self.told_of(rt.alloc(), pruning, next.as_slice(), zone)?;
-        save_told(
-            rt,
-            self.path,
-            place,
-            next.as_slice(),
-            told.as_slice(),
-            printer,
-        )
+        let news = self.told_of(rt.alloc(), pruning, next.as_slice(), zone)?;
+        news.save(rt, self.path, place, next.as_slice(), printer)
     }
 
     fn prune<W: Write>(

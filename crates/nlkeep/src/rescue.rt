@@ -1,19 +1,24 @@
 //! `rescue`: what can be read of a damaged image, checkpoint by checkpoint.
 use crate::asking::{Outcome, word};
 use crate::faults::{Fault, fault_at, system_fault, volume_fault};
-use crate::images::read_image;
+use crate::image_files::{Purpose, read_for};
+use crate::images::pen_of;
+use crate::manifests::tell_bad_manifests;
 use crate::printing::{Printer, tell_paths_left_out, tell_refused};
-use crate::restore::put_told;
+use crate::restore::{Put, make_new, put_told};
+use crate::sums::{Summed, beside_sum, sum_path};
 use clap::ArgMatches;
-use nl_damage::{ImagePages, Ruin, Sections};
-use nl_folders::Path;
-use nl_host::Reason;
+use nl_damage::sums::Comparison;
+use nl_damage::{Doubt, Doubts, ImagePages, Ruin, Sections};
+use nl_folders::{Path, Tree};
+use nl_host::{Manner, Reason};
 use nl_layout::CheckpointEntry;
 use nl_manifests::{LineFault, Opened, open};
-use nl_types::{CheckpointNumber, Geometry, Items, Object, VolError};
+use nl_pins::{is_of_pins, without_pins};
+use nl_types::{CheckpointNumber, Geometry, Items, VolError};
 use std::alloc::{AllocError, Global};
 use std::fs;
-use std::io::Write;
+use std::io::{self, IsTerminal, Write};
 
 /// A path of a checkpoint, below the folder of all of them.
 fn below_number(
@@ -59,12 +64,44 @@ fn make_new_folder(rt: &HostRuntime, folder: &str) -> Result<(), Fault> {
     }
 }
 
+impl<W: Write> Printer<W> {
+    /// A path of what was read and isn't to be trusted.
+    fn doubtful(&mut self, path: &Path, doubt: Doubt) -> io::Result<()> {
+        self.out.write_all(b"nlkeep: doubtful: ")?;
+        self.path(path.as_slice(), false)?;
+        writeln!(self.out, ": {doubt}")
+    }
+}
+
+/// Tells what was read and isn't to be trusted, a line each, on standard error.
+fn tell_doubts(rt: &HostRuntime, all: &[(Path, Doubt)]) {
+    let mut printer = Printer {
+        out: rt.stderr(),
+        is_terminal: rt.stderr().is_terminal(),
+    };
+    for (path, doubt) in all {
+        let _ = printer.doubtful(path, *doubt);
+    }
+}
+
+/// What was read of a checkpoint.
+#[derive(Drop)]
+struct Rescued {
+    opened: Opened,
+    /// Whether nothing is lost.
+    is_whole: bool,
+    /// Whether all that was read is to be trusted.
+    is_trusted: bool,
+}
+
 /// An image from which checkpoints are rescued.
 #[derive(Clone, Copy)]
 struct Rescuing<'a> {
     rt: &'a HostRuntime,
     geometry: Geometry,
     pages: &'a ImagePages,
+    /// None of an image that is sound.
+    doubts: Option<&'a Doubts>,
     folder: &'a str,
 }
 
@@ -76,75 +113,143 @@ impl Rescuing<'_> {
         Ok(lost.is_empty())
     }
 
-    /// What the tree of a checkpoint shows.
-    fn shown(
-        &self,
-        number: CheckpointNumber,
-        tree: &[(Path, Object)],
-    ) -> Result<Opened, AllocError> {
+    /// Tells what of a checkpoint isn't to be trusted. Answers whether all is.
+    fn tell_doubtful(&self, entry: &CheckpointEntry) -> Result<bool, VolError> {
+        let Some(doubts) = self.doubts else {
+            return Ok(true);
+        };
         let alloc = self.rt.alloc();
-        let Opened { tree, refused } = open(alloc, tree)?;
+        let mut all = Vec::new(alloc);
+        for (path, doubt) in doubts.in_checkpoint(alloc, self.pages, entry)? {
+            if !is_of_pins(path.as_slice()) {
+                all.push((below_number(alloc, entry.number, path)?, doubt))?;
+            }
+        }
+        tell_doubts(self.rt, all.as_slice());
+        Ok(all.is_empty())
+    }
+
+    /// What the tree of a checkpoint shows, without its pins.
+    fn shown(&self, number: CheckpointNumber, tree: Tree) -> Result<Opened, AllocError> {
+        let alloc = self.rt.alloc();
+        let Opened { tree, refused } = open(alloc, without_pins(alloc, tree)?.as_slice())?;
         let refused = refused_below(alloc, number, refused.into_vec())?;
         let refused = Items::from_vec(refused);
         Ok(Opened { tree, refused })
     }
 
-    /// What a checkpoint shows, as far as it can be read. None where its root can't be. What is lost is told, and
-    /// whether nothing is.
-    fn opened(&self, entry: &CheckpointEntry) -> Result<Option<(Opened, bool)>, VolError> {
+    /// What a checkpoint shows, as far as it can be read. None where its root can't be. What is lost is told,
+    /// and what isn't to be trusted.
+    fn opened(&self, entry: &CheckpointEntry) -> Result<Option<Rescued>, VolError> {
         let Ruin { tree, lost } = Ruin::read(self.rt.alloc(), self.pages, self.geometry, entry)?;
         if tree.is_empty() {
             return Ok(None);
         }
         let is_whole = self.tell_lost(entry.number, lost)?;
-        let opened = self.shown(entry.number, tree.as_slice())?;
-        Ok(Some((opened, is_whole)))
+        let is_trusted = self.tell_doubtful(entry)?;
+        let opened = self.shown(entry.number, tree)?;
+        Ok(Some(Rescued {
+            opened,
+            is_whole,
+            is_trusted,
+        }))
     }
 
-    /// Lays a tree out in a new folder of a checkpoint. Answers whether all of it is there.
-    fn lay_out(&self, number: CheckpointNumber, opened: &Opened) -> Result<bool, Fault> {
-        let alloc = self.rt.alloc();
-        let folder = format!(in alloc; "{}/{}", self.folder, number.get())?;
-        make_new_folder(self.rt, folder.as_str())?;
-        let is_there = put_told(self.rt, folder.as_str(), opened.tree.as_slice(), false)?;
-        let is_told_whole = tell_refused(self.rt, opened.refused.as_slice(), &[]);
-        Ok(is_told_whole && is_there)
+    /// Lays a tree out in a new folder of a checkpoint. Where a manifest is none, or may be lost, what is of
+    /// no known mode is its owner's alone.
+    fn lay_out(&self, number: CheckpointNumber, rescued: &Rescued) -> Result<Put, AllocError> {
+        let (alloc, number) = (self.rt.alloc(), number.get());
+        let tree = rescued.opened.tree.as_slice();
+        let folder = format!(in alloc; "{}/{number}", self.folder)?;
+        let are_good = tell_bad_manifests(self.rt, tree, &[], Some(number));
+        let manner = Manner {
+            with_owners: false,
+            is_private: !are_good || !rescued.is_whole,
+        };
+        if let Err(error) = make_new(self.rt, folder.as_str(), tree, manner) {
+            let _ = eprintln!(self.rt; "nlkeep: left out: {folder}: cannot be made: {error}");
+            return Ok(Put::Partly);
+        }
+        let put = put_told(self.rt, folder.as_str(), tree, manner);
+        let is_told_whole = tell_refused(self.rt, rescued.opened.refused.as_slice(), &[]);
+        Ok(match put {
+            Put::Whole if is_told_whole && are_good => Put::Whole,
+            Put::Whole => Put::Partly,
+            put => put,
+        })
     }
 
-    /// Lays out what a checkpoint shows. Answers whether all of it is there.
+    /// Lays out what a checkpoint shows.
     fn put<W: Write>(
         &self,
         number: CheckpointNumber,
-        opened: &Opened,
-        is_whole: bool,
+        rescued: &Rescued,
         printer: &mut Printer<W>,
-    ) -> Result<bool, Fault> {
-        let is_there = self.lay_out(number, opened)?;
-        let (number, paths) = (number.get(), opened.tree.len());
-        let ending = if is_whole { "" } else { ", and not all" };
+    ) -> Result<Put, Fault> {
+        let put = self.lay_out(number, rescued)?;
+        let (number, paths) = (number.get(), rescued.opened.tree.len());
+        let ending = if rescued.is_whole {
+            ""
+        } else {
+            ", and not all"
+        };
         writeln!(printer.out, "checkpoint {number}: {paths} paths{ending}")?;
-        Ok(is_whole && is_there)
+        Ok(match put {
+            Put::Whole if rescued.is_whole && rescued.is_trusted => Put::Whole,
+            Put::Whole => Put::Partly,
+            put => put,
+        })
     }
 
-    /// Rescues a checkpoint. Answers whether all of it is there.
+    /// Rescues a checkpoint.
     fn checkpoint<W: Write>(
         &self,
         image: &str,
         entry: &CheckpointEntry,
         printer: &mut Printer<W>,
-    ) -> Result<bool, Fault> {
+    ) -> Result<Put, Fault> {
         match self.opened(entry) {
-            Ok(Some((opened, is_whole))) => self.put(entry.number, &opened, is_whole, printer),
+            Ok(Some(rescued)) => self.put(entry.number, &rescued, printer),
             Ok(None) => {
                 let number = entry.number.get();
                 let _ = eprintln!(self.rt; "nlkeep: left out: /{number}: cannot be read");
-                Ok(false)
+                Ok(Put::Partly)
             }
             Err(error) => Err(volume_fault(self.rt.alloc(), image, error)),
         }
     }
 
-    /// Rescues each checkpoint of an image whose entry can be read. Answers whether all of all of them is there.
+    /// Rescues the checkpoint of an entry, by its place.
+    fn entry<W: Write>(
+        &self,
+        image: &str,
+        sections: &Sections<'_>,
+        place: usize,
+        printer: &mut Printer<W>,
+    ) -> Result<Put, Fault> {
+        match sections.checkpoint(place) {
+            Some(entry) => self.checkpoint(image, &entry, printer),
+            None => {
+                let _ = eprintln!(self.rt;
+                    "nlkeep: left out: entry {place} of the checkpoints: cannot be read"
+                );
+                Ok(Put::Partly)
+            }
+        }
+    }
+
+    /// Tells how many checkpoints are left out behind the one at which the system took no more.
+    fn tell_later(&self, count: usize) {
+        if count > 0 {
+            let _ = eprintln!(self.rt;
+                "nlkeep: left out: {}: the last {count} checkpoints",
+                self.folder
+            );
+        }
+    }
+
+    /// Rescues each checkpoint of an image whose entry can be read. Answers whether all of all of them is
+    /// there.
     fn all<W: Write>(
         &self,
         image: &str,
@@ -153,18 +258,42 @@ impl Rescuing<'_> {
     ) -> Result<bool, Fault> {
         let mut is_whole = true;
         for place in 0..sections.entries() {
-            match sections.checkpoint(place) {
-                Some(entry) => is_whole = self.checkpoint(image, &entry, printer)? && is_whole,
-                None => {
-                    let _ = eprintln!(self.rt;
-                        "nlkeep: left out: entry {place} of the checkpoints: cannot be read"
-                    );
-                    is_whole = false;
-                }
+            let put = self.entry(image, sections, place, printer)?;
+            is_whole = is_whole && put == Put::Whole;
+            if put == Put::Ended {
+                let later = sections.entries().saturating_sub(place).saturating_sub(1);
+                self.tell_later(later);
+                break;
             }
         }
         Ok(is_whole)
     }
+}
+
+/// Whether the bytes at a path are those of a sound image, as far as its conditions and its sum tell.
+fn is_sound(rt: &HostRuntime, path: &str, image: &[u8]) -> Result<bool, Fault> {
+    if pen_of(rt.alloc(), image).is_err() {
+        return Ok(false);
+    }
+    let sum_path = sum_path(rt, path)?;
+    Ok(match beside_sum(rt, sum_path.as_str(), image)? {
+        Summed::Compared(Comparison::Differs(segments)) => segments.is_empty(),
+        _ => true,
+    })
+}
+
+/// What of an image that isn't sound is to be trusted.
+fn doubts_of(
+    rt: &HostRuntime,
+    path: &str,
+    image: &[u8],
+    sections: &Sections<'_>,
+    pages: &ImagePages,
+) -> Result<Option<Doubts>, Fault> {
+    if is_sound(rt, path, image)? {
+        return Ok(None);
+    }
+    Ok(Some(Doubts::of(rt.alloc(), sections, pages)?))
 }
 
 /// Lays out what can be read of each checkpoint of an image. Answers whether all of all of them is there.
@@ -173,6 +302,7 @@ fn rescue_pages<W: Write>(
     matches: &ArgMatches<'_>,
     sections: &Sections<'_>,
     pages: &ImagePages,
+    doubts: Option<&Doubts>,
     printer: &mut Printer<W>,
 ) -> Result<bool, Fault> {
     let folder = word(matches, "FOLDER");
@@ -181,6 +311,7 @@ fn rescue_pages<W: Write>(
         rt,
         geometry: sections.geometry,
         pages,
+        doubts,
         folder,
     };
     rescuing.all(word(matches, "IMAGE"), sections, printer)
@@ -198,7 +329,8 @@ fn rescue_image<W: Write>(
         return Err(fault_at(rt.alloc(), path, "has no superblock that can be read"));
     };
     let pages = ImagePages::of(rt.alloc(), &sections)?;
-    let is_whole = rescue_pages(rt, matches, &sections, &pages, printer)?;
+    let doubts = doubts_of(rt, path, image, &sections, &pages)?;
+    let is_whole = rescue_pages(rt, matches, &sections, &pages, doubts.as_ref(), printer)?;
     let missing = sections.places.end.saturating_sub(image.len());
     if missing > 0 {
         let _ = eprintln!(rt; "nlkeep: left out: {path}: the last {missing} bytes are not there");
@@ -212,6 +344,6 @@ pub fn rescue<W: Write>(
     matches: &ArgMatches<'_>,
     printer: &mut Printer<W>,
 ) -> Result<Outcome, Fault> {
-    let image = read_image(rt, word(matches, "IMAGE"))?;
-    rescue_image(rt, matches, image.as_slice(), printer)
+    let image = read_for(rt, word(matches, "IMAGE"), Purpose::Rescuing)?;
+    rescue_image(rt, matches, image.bytes.as_slice(), printer)
 }

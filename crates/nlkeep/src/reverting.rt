@@ -3,6 +3,7 @@ use crate::asking::{Clock, Outcome, word};
 use crate::faults::{Fault, fault_at};
 use crate::grafting::{GraftError, grafted};
 use crate::images::take_place;
+use crate::manifests::tell_bad_manifests;
 use crate::parts::path_said;
 use crate::printing::{Printer, tell_refused};
 use crate::progress::Progress;
@@ -46,8 +47,8 @@ fn opened_latest(alloc: Global, view: &View<'_>) -> Result<Opened, Fault> {
     Ok(open(alloc, tree.as_slice())?)
 }
 
-/// The later of two trees, in which what a word says stands as in the earlier one. Lines of manifests that show
-/// nothing are told.
+/// The later of two trees, in which what a word says stands as in the earlier one. Lines of manifests that
+/// show nothing are told.
 fn gathered_of(
     rt: &HostRuntime,
     word: &str,
@@ -56,9 +57,11 @@ fn gathered_of(
 ) -> Result<Gathered, Fault> {
     let alloc = rt.alloc();
     let top = path_said(alloc, word)?;
+    let are_good = tell_bad_manifests(rt, earlier.tree.as_slice(), top.as_slice(), None);
+    let are_rest_good = tell_bad_manifests(rt, later.tree.as_slice(), &[], None);
     let tree = tree_with(alloc, word, top.as_slice(), later.tree, earlier.tree)?;
-    let is_part_whole = tell_refused(rt, earlier.refused.as_slice(), top.as_slice());
-    let is_rest_whole = tell_refused(rt, later.refused.as_slice(), &[]);
+    let is_part_whole = tell_refused(rt, earlier.refused.as_slice(), top.as_slice()) && are_good;
+    let is_rest_whole = tell_refused(rt, later.refused.as_slice(), &[]) && are_rest_good;
     Ok(Gathered {
         tree,
         is_whole: is_part_whole && is_rest_whole,
@@ -86,7 +89,7 @@ fn revert_into<W: Write>(
     printer: &mut Printer<W>,
 ) -> Result<Outcome, Fault> {
     let keeping = Keeping::said(rt, matches, clock)?;
-    let mut progress = Progress::begin(rt);
+    let mut progress = Progress::begin(rt, matches);
     let gathered = gathered(rt, matches, clock)?;
     keeping.keep_gathered(rt, clock, gathered, &mut progress, place, printer)
 }

@@ -1,16 +1,17 @@
 //! The folder of the host that is kept.
 use crate::faults::{Fault, fault_at, system_fault, told, volume_fault};
-use crate::parts::path_said;
+use crate::own_files::OwnFiles;
 use crate::progress::{Progress, Reading};
 use crate::unpacking::{TOO_MANY, sealed};
-use nl_folders::{FolderError, Name, Path as TreePath, Tree, begins_with};
+use nl_folders::{FolderError, Tree};
 use nl_host::{HostFolder, LeftOut, Pattern, Reason, Selection, TooBig, read_folder};
-use nl_manifests::{HostObject, HostTree};
+use nl_manifests::HostTree;
 use nl_pins::is_of_pins;
 use nl_types::limits::VOLUME_BLOCK_LIMIT;
 use nl_types::{BLOCK_SIZE, Items, VolError};
 use std::alloc::{AllocError, Global};
-use std::path::{Path, PathBuf};
+use std::os::unix::fs::MetadataExt;
+use std::path::PathBuf;
 use std::{fs, io};
 
 /// The most bytes that a volume has.
@@ -24,6 +25,8 @@ pub struct Source<'a> {
     pub excluded: &'a [Pattern<'a>],
     /// Whether names and bytes alone are kept.
     pub is_plain: bool,
+    /// Whether other file systems than the folder's are passed over.
+    pub is_one_system: bool,
 }
 
 /// What is said of a folder that was other in the end than in the beginning.
@@ -37,22 +40,27 @@ pub struct Scan {
     pub left_out: Vec<LeftOut>,
 }
 
-/// The folder of a path with its links followed, and the name in it, which need not stand there.
-fn folder_and_name(rt: &HostRuntime, path: &str) -> io::Result<(PathBuf, String)> {
-    let path = Path::new(path);
-    let folder = match path.parent() {
-        Some(folder) if !folder.as_str().is_empty() => folder,
-        _ => Path::new("."),
+/// The devices of the file systems that the host has at /proc, /sys and /dev, where no files of anybody are.
+fn system_devices(rt: &HostRuntime) -> Result<Vec<u64>, AllocError> {
+    let mut devices = Vec::new(rt.alloc());
+    let Ok(top) = fs::metadata(rt, "/") else {
+        return Ok(devices);
     };
-    let name = String::from_str(rt.alloc(), path.file_name().unwrap_or(""))?;
-    Ok((fs::canonicalize(rt, folder)?, name))
+    for folder in ["/proc", "/sys", "/dev"] {
+        if let Ok(told) = fs::metadata(rt, folder) {
+            if told.dev() != top.dev() {
+                devices.push(told.dev())?;
+            }
+        }
+    }
+    Ok(devices)
 }
 
 fn too_big_text(alloc: Global, files: &[TooBig]) -> Result<String, AllocError> {
     let begin = "no volume takes files above 64M; leave them out by --exclude:";
     let mut text = String::from_str(alloc, begin)?;
     for file in files {
-        let (path, size) = (file.path.as_str(), file.size);
+        let (path, size) = (crate::faults::Escaped(file.path.as_str()), file.size);
         let line = format!(in alloc; "\n  {path} ({size} bytes)")?;
         text.push_str(line.as_str())?;
     }
@@ -67,30 +75,15 @@ fn too_many_text(alloc: Global, folder: &str, bytes: u64) -> Result<String, Allo
     )
 }
 
-fn scan_fault(alloc: Global, path: &str, error: FolderError) -> Fault {
-    match error {
-        FolderError::Refused(VolError::TooBig) => fault_at(alloc, path, TOO_MANY),
-        FolderError::Refused(error) => volume_fault(alloc, path, error),
-        FolderError::Unread => fault_at(alloc, path, "cannot be read"),
-        FolderError::Disordered => fault_at(alloc, path, CHANGED),
+/// Why there is no tree of a folder, and why the system doesn't give it, if it doesn't.
+fn scan_fault(alloc: Global, path: &str, error: FolderError, failure: Option<io::Error>) -> Fault {
+    match (error, failure) {
+        (FolderError::Refused(VolError::TooBig), _) => fault_at(alloc, path, TOO_MANY),
+        (FolderError::Refused(error), _) => volume_fault(alloc, path, error),
+        (FolderError::Unread, Some(why)) => system_fault(alloc, path, "cannot be read", &why),
+        (FolderError::Unread, None) => fault_at(alloc, path, "cannot be read"),
+        (FolderError::Disordered, _) => fault_at(alloc, path, CHANGED),
     }
-}
-
-/// The names from a folder to the file of the image's sum, if that stands below.
-fn path_of_sum(
-    alloc: Global,
-    folder: &str,
-    selection: &Selection<'_>,
-) -> Result<Option<TreePath>, AllocError> {
-    let Some(rest) = selection.image_folder.strip_prefix(folder) else {
-        return Ok(None);
-    };
-    if !rest.is_empty() && !rest.starts_with('/') && folder != "/" {
-        return Ok(None);
-    }
-    let name = selection.image_name;
-    let text = format!(in alloc; "{rest}/{name}.sum")?;
-    Ok(Some(path_said(alloc, text.as_str())?))
 }
 
 /// Notes that something with a path of the host is left out.
@@ -104,48 +97,6 @@ fn note(
         reason,
     })?;
     Ok(())
-}
-
-/// What was read of a folder without files at and below a path, and how many those are.
-fn without_files(
-    alloc: Global,
-    tree: HostTree,
-    top: &[Name],
-) -> Result<(HostTree, usize), AllocError> {
-    let mut kept = Items::new(alloc);
-    let mut count: usize = 0;
-    for (path, entry) in tree.into_vec() {
-        let is_file = matches!(entry.object, HostObject::File(_));
-        if is_file && begins_with(path.as_slice(), top) {
-            count = count.saturating_add(1);
-        } else {
-            kept.push((path, entry))?;
-        }
-    }
-    Ok((kept, count))
-}
-
-/// Leaves the file of the image's sum out of what was read of a folder.
-fn without_sum(
-    alloc: Global,
-    folder: &str,
-    selection: &Selection<'_>,
-    tree: HostTree,
-    left_out: &mut Vec<LeftOut>,
-) -> Result<HostTree, AllocError> {
-    let Some(sum) = path_of_sum(alloc, folder, selection)? else {
-        return Ok(tree);
-    };
-    let (kept, count) = without_files(alloc, tree, sum.as_slice())?;
-    let (folder, name) = (selection.image_folder, selection.image_name);
-    for _ in 0..count {
-        note(
-            left_out,
-            format!(in alloc; "{folder}/{name}.sum"),
-            Reason::Image,
-        )?;
-    }
-    Ok(kept)
 }
 
 /// What was read of a folder without what has the name of the file of pins, and how often that stands in the
@@ -201,12 +152,10 @@ fn judge_files(
 fn scan_of(
     alloc: Global,
     folder: &str,
-    selection: &Selection<'_>,
     tree: HostTree,
     left_out: Vec<LeftOut>,
 ) -> Result<Scan, Fault> {
     let mut left_out = left_out;
-    let tree = without_sum(alloc, folder, selection, tree, &mut left_out)?;
     let tree = without_reserved(alloc, folder, tree, &mut left_out)?;
     let tree = sealed(alloc, folder, tree.as_slice(), CHANGED)?;
     Ok(Scan { tree, left_out })
@@ -228,11 +177,20 @@ fn scan_below(
     let read = read_folder(alloc, &mut host, &mut Reading::new(progress));
     judge_files(alloc, folder, &host)?;
     match read {
-        Ok(tree) => scan_of(alloc, folder, selection, tree, host.left_out),
-        Err(error) => {
-            let path = host.failed_at.as_ref().map_or(folder, String::as_str);
-            Err(scan_fault(alloc, path, error))
-        }
+        Ok(tree) => scan_of(alloc, folder, tree, host.left_out),
+        Err(error) => Err(scan_fault(alloc, folder, error, host.failure)),
+    }
+}
+
+/// The path of the folder that is to be kept, links followed.
+fn root_of(rt: &HostRuntime, folder: &str) -> Result<PathBuf, Fault> {
+    match fs::metadata(rt, folder) {
+        Ok(told) if !told.is_dir() => return Err(fault_at(rt.alloc(), folder, "is no folder")),
+        _ => {}
+    }
+    match fs::canonicalize(rt, folder) {
+        Ok(root) => Ok(root),
+        Err(error) => Err(system_fault(rt.alloc(), folder, "cannot be read", &error)),
     }
 }
 
@@ -243,19 +201,15 @@ pub fn scan_folder(
     image: &str,
     progress: &mut Progress<'_>,
 ) -> Result<Scan, Fault> {
-    let alloc = rt.alloc();
-    let root = match fs::canonicalize(rt, source.folder) {
-        Ok(root) => root,
-        Err(error) => return Err(system_fault(alloc, source.folder, "cannot be read", &error)),
-    };
-    let (image_folder, image_name) = match folder_and_name(rt, image) {
-        Ok(place) => place,
-        Err(error) => return Err(system_fault(alloc, image, "cannot be read", &error)),
-    };
+    let root = root_of(rt, source.folder)?;
+    let own = OwnFiles::of(rt, image)?;
+    let systems = system_devices(rt)?;
     let selection = Selection {
         excluded: source.excluded,
-        image_folder: image_folder.as_path().as_str(),
-        image_name: image_name.as_str(),
+        image: own.image.as_slice(),
+        sides: own.sides.as_slice(),
+        is_one_system: source.is_one_system,
+        systems: systems.as_slice(),
     };
     let root = root.as_path().as_str();
     scan_below(rt, root, &selection, source.is_plain, progress)

@@ -2,10 +2,12 @@
 use crate::asking::{Clock, Outcome, moment, most, word};
 use crate::comparing::tell_differences;
 use crate::faults::{Fault, fault_at, volume_fault};
-use crate::images::{device_for, read_image, save_told};
-use crate::printing::Printer;
+use crate::fullness::full_fault;
+use crate::images::{device_for, read_image};
+use crate::printing::{Printer, last_line};
 use crate::progress::Progress;
 use crate::sizes::Size;
+use crate::telling::{News, done_as};
 use crate::views::View;
 use clap::ArgMatches;
 use nl_folders::{Path, Tree};
@@ -43,6 +45,9 @@ enum Kept {
     Stored(Stored, Vec<u8>),
     NoSpace,
 }
+
+/// What takes away the line of a terminal.
+const CLEARING: &[u8] = b"\r\x1b[K";
 
 /// Why a tree isn't stored.
 fn keep_fault(alloc: Global, image: &str, error: KeepError) -> Fault {
@@ -88,14 +93,16 @@ fn told_of(
     stores: &Stores,
     tree: &[(Path, Object)],
     is_terminal: bool,
-) -> Result<Vec<u8>, Fault> {
+) -> Result<News, Fault> {
     let mut printer = Printer {
         out: Vec::new(alloc),
         is_terminal,
     };
     tell_growth(stores.grown, &mut printer)?;
     tell_stored(alloc, &stores.stored, tree, &mut printer)?;
-    Ok(printer.out)
+    let text = printer.out;
+    let done = done_as(alloc, stores.stored.number.get())?;
+    Ok(News { text, done })
 }
 
 /// Stores a tree in the volume of an image, and answers the image that is to stand in its place.
@@ -138,7 +145,7 @@ pub fn store_in(alloc: Global, path: &str, image: &[u8], wanted: &Wanted) -> Res
             image: next,
             grown: room.grown,
         }),
-        Kept::NoSpace => Err(volume_fault(alloc, path, VolError::NoSpace)),
+        Kept::NoSpace => Err(full_fault(alloc, path, image, wanted)),
     }
 }
 
@@ -150,6 +157,8 @@ pub struct Keeping<'a> {
     pub moment: u64,
     /// The most bytes.
     pub most: u64,
+    /// Whether only the last line is told.
+    pub is_quiet: bool,
 }
 
 /// A tree that is to be kept beside the pins of a volume.
@@ -160,26 +169,12 @@ pub struct Gathered {
     pub is_whole: bool,
 }
 
-/// Stores a tree in the volume of an image, and saves that. What was done is told once the image is there.
-fn store<W: Write>(
-    rt: &HostRuntime,
-    path: &str,
-    image: &[u8],
-    wanted: &Wanted,
-    place: &mut SavePlace<'_>,
-    printer: &mut Printer<W>,
-) -> Result<Outcome, Fault> {
-    let alloc = rt.alloc();
-    let stores = store_in(alloc, path, image, wanted)?;
-    let told = told_of(alloc, &stores, wanted.tree.as_slice(), printer.is_terminal)?;
-    save_told(
-        rt,
-        path,
-        place,
-        stores.image.as_slice(),
-        told.as_slice(),
-        printer,
-    )
+/// Puts what takes away what is told of the work at a terminal before a text.
+fn behind_progress(alloc: Global, text: &[u8]) -> io::Result<Vec<u8>> {
+    let mut whole = Vec::with_capacity(alloc, text.len())?;
+    whole.write_all(CLEARING)?;
+    whole.write_all(text)?;
+    Ok(whole)
 }
 
 impl<'a> Keeping<'a> {
@@ -192,6 +187,7 @@ impl<'a> Keeping<'a> {
             path: word(matches, "IMAGE"),
             moment: moment(rt, matches, clock.now)?,
             most: most(rt, matches)?,
+            is_quiet: matches.get_flag("quiet"),
         })
     }
 
@@ -212,23 +208,66 @@ impl<'a> Keeping<'a> {
         tree: Tree,
     ) -> Result<Wanted, Fault> {
         let alloc = rt.alloc();
-        let pins = View::of(rt, self.path, image, clock)?.pins_file(alloc)?;
+        let view = View::of(rt, self.path, image, clock)?;
+        view.tell_earlier(rt, clock, self.moment)?;
+        let pins = view.pins_file(alloc)?;
         Ok(self.wanted(with_pins(alloc, pins, tree)?))
     }
 
-    /// Stores a tree that has no pins, beside those of the volume, and saves the image. Answers whether its sum
-    /// was left out.
+    /// What is told of a tree that is stored, as far as a person wants to know. At a terminal it takes the
+    /// place of what is told of the work.
+    fn told_of(
+        &self,
+        alloc: Global,
+        stores: &Stores,
+        tree: &[(Path, Object)],
+        progress: &Progress<'_>,
+        is_terminal: bool,
+    ) -> Result<News, Fault> {
+        let News { text, done } = told_of(alloc, stores, tree, is_terminal)?;
+        let text = if self.is_quiet {
+            Vec::from_slice(alloc, last_line(text.as_slice()))?
+        } else if is_terminal && progress.is_shown() {
+            behind_progress(alloc, text.as_slice())?
+        } else {
+            text
+        };
+        Ok(News { text, done })
+    }
+
+    /// Stores a tree in the volume of an image, and saves that. What was done is told once the image is
+    /// there.
+    fn store<W: Write>(
+        &self,
+        rt: &HostRuntime,
+        image: &[u8],
+        wanted: &Wanted,
+        progress: &mut Progress<'_>,
+        place: &mut SavePlace<'_>,
+        printer: &mut Printer<W>,
+    ) -> Result<Outcome, Fault> {
+        let (alloc, tree) = (rt.alloc(), wanted.tree.as_slice());
+        let stores = store_in(alloc, self.path, image, wanted)?;
+        progress.tell("digesting and saving");
+        let news = self.told_of(alloc, &stores, tree, progress, printer.is_terminal)?;
+        news.save(rt, self.path, place, stores.image.as_slice(), printer)
+    }
+
+    /// Stores a tree that has no pins, beside those of the volume, and saves the image. Answers whether its
+    /// sum was left out.
     fn keep<W: Write>(
         &self,
         rt: &HostRuntime,
         clock: &Clock<'_>,
         tree: Tree,
+        progress: &mut Progress<'_>,
         place: &mut SavePlace<'_>,
         printer: &mut Printer<W>,
     ) -> Result<Outcome, Fault> {
         let image = read_image(rt, self.path)?;
         let wanted = self.beside_pins(rt, clock, image.as_slice(), tree)?;
-        store(rt, self.path, image.as_slice(), &wanted, place, printer)
+        progress.tell("storing");
+        self.store(rt, image.as_slice(), &wanted, progress, place, printer)
     }
 
     /// The same of a tree of which something may be left out, with what is told of the work.
@@ -242,9 +281,10 @@ impl<'a> Keeping<'a> {
         printer: &mut Printer<W>,
     ) -> Result<Outcome, Fault> {
         let Gathered { tree, is_whole } = gathered;
-        progress.tell("storing");
-        let kept = self.keep(rt, clock, tree, place, printer);
-        progress.end();
+        let kept = self.keep(rt, clock, tree, progress, place, printer);
+        if kept.is_err() || !printer.is_terminal {
+            progress.end();
+        }
         Ok(kept?.and(Outcome::of(is_whole)))
     }
 }

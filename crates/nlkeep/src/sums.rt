@@ -1,15 +1,19 @@
 //! The sum of an image, in a file beside it.
 use crate::asking::Outcome;
-use crate::faults::Fault;
+use crate::faults::{Fault, system_fault};
+use crate::image_files::irregular;
+use crate::lasting::{Lasting, before_save};
 use nl_core::geometry_of;
 use nl_damage::Sections;
 use nl_damage::sums::{Comparison, Kept, Sum, compare, printed, read_sum};
-use nl_saving::{FileFault, InUse, SavePlace, Saved, read_file};
+use nl_saving::{FileFault, behind_links, read_first, save_marked};
 use nl_types::{BLOCK_SIZE, Items};
 use std::alloc::{AllocError, Global};
+use std::path::PathBuf;
 use std::{fs, io};
 
-/// Which checkpoints an image keeps, by its table. The latest one's number is 0 where its entry can't be read.
+/// Which checkpoints an image keeps, by its table. The latest one's number is 0 where its entry can't be
+/// read.
 pub fn kept_in(image: &[u8]) -> Kept {
     match Sections::of(image) {
         Some(sections) => Kept {
@@ -35,28 +39,41 @@ pub fn sum_of(alloc: Global, image: &[u8]) -> Result<Option<Sum>, AllocError> {
     Ok(Some(sum))
 }
 
-/// Where the sum of the image at a path stands.
-pub fn sum_path(alloc: Global, image: &str) -> Result<String, AllocError> {
-    format!(in alloc; "{image}.sum")
+/// The path of the file that the links of an image's path lead to.
+pub fn image_file(rt: &HostRuntime, image: &str) -> Result<PathBuf, Fault> {
+    match behind_links(rt, image) {
+        Ok(path) => Ok(path),
+        Err(error) => Err(system_fault(rt.alloc(), image, "cannot be read", &error)),
+    }
+}
+
+/// Where the sum of an image stands that isn't given by a link.
+fn beside(alloc: Global, file: &str) -> Result<String, AllocError> {
+    format!(in alloc; "{file}.sum")
+}
+
+/// Where the sum of the image at a path stands: beside the file that its links lead to.
+pub fn sum_path(rt: &HostRuntime, image: &str) -> Result<String, Fault> {
+    let file = image_file(rt, image)?;
+    Ok(beside(rt.alloc(), file.as_str())?)
 }
 
 // ---- a sum that is to be written
+
+/// What the file of a sum begins with, in front of a number.
+const MARK: &[u8] = b"nlkeep sum ";
 
 /// The sum of an image that is to be saved, and where it will stand. All memory is taken before the image is
 /// saved.
 #[derive(Drop)]
 pub struct PlannedSum {
-    path: String,
+    pub path: String,
+    /// The file of the image.
+    pub image: PathBuf,
     /// None where the bytes that are saved are divided as no image.
     text: Option<Items<u8>>,
-}
-
-/// Puts a text in a place that is looked at now. None where it doesn't stand there in the end.
-fn put(rt: &HostRuntime, path: &str, text: &[u8]) -> io::Result<Option<Saved>> {
-    match SavePlace::take(rt, path.as_bytes()) {
-        Ok(mut place) => Ok(Some(place.save(rt, text)?)),
-        Err(InUse) => Ok(None),
-    }
+    /// What of the image was damaged before.
+    lasting: Lasting,
 }
 
 /// Whether what stands at a path is known to be no regular file, such as a device.
@@ -68,38 +85,63 @@ fn is_special(rt: &HostRuntime, path: &str) -> bool {
 }
 
 impl PlannedSum {
-    /// The sum of the image that is to stand at a path.
-    pub fn of(alloc: Global, path: &str, image: &[u8]) -> Result<PlannedSum, Fault> {
-        let text = match sum_of(alloc, image)? {
-            Some(sum) => Some(printed(alloc, &sum)?),
-            None => None,
+    /// The sum of the image that is to stand at a path. Where the one that stands there differs from its sum,
+    /// so does the new one from this, as far as it has the same bytes.
+    pub fn of(rt: &HostRuntime, path: &str, bytes: &[u8]) -> Result<PlannedSum, Fault> {
+        let alloc = rt.alloc();
+        let image = image_file(rt, path)?;
+        let path = beside(alloc, image.as_str())?;
+        let Some(sum) = sum_of(alloc, bytes)? else {
+            let lasting = Lasting::none(alloc);
+            return Ok(PlannedSum {
+                path,
+                image,
+                text: None,
+                lasting,
+            });
         };
+        let lasting = before_save(rt, image.as_str(), path.as_str(), &sum, bytes)?;
+        let text = Some(printed(alloc, &lasting.in_sum(alloc, sum)?)?);
         Ok(PlannedSum {
-            path: sum_path(alloc, path)?,
+            path,
+            image,
             text,
+            lasting,
         })
     }
 
-    /// Writes it beside the image at a path, which was saved. Where it can't be written that is told, and the one
-    /// that was there stays. What is no regular file has none.
-    pub fn save(&self, rt: &HostRuntime, image: &str) -> Outcome {
-        let Some(text) = &self.text else {
-            return Outcome::Done;
-        };
-        if is_special(rt, image) {
-            return Outcome::Done;
-        }
-        let path = self.path.as_str();
-        let _ = match put(rt, path, text.as_slice()) {
-            Ok(Some(Saved::There)) => return Outcome::Done,
-            Ok(_) => eprintln!(rt; "nlkeep: left out: {path}: is in use by another program"),
+    /// Puts it beside the image. Answers whether it is left out, which is told.
+    fn put(&self, rt: &HostRuntime, text: &[u8]) -> Outcome {
+        let (path, image) = (self.path.as_str(), self.image.as_str());
+        let _ = match save_marked(rt, path, MARK, image, text) {
+            Ok(true) => return Outcome::Done,
+            Ok(false) => eprintln!(rt;
+                "nlkeep: left out: {path}: what stands there is no sum, and stays"
+            ),
             Err(error) => eprintln!(rt; "nlkeep: left out: {path}: cannot be written: {error}"),
         };
         Outcome::Partly
     }
+
+    /// Writes it beside the image, which was saved, and tells what was damaged before. Where it can't be
+    /// written that is told, and what was there stays. What is no regular file has none.
+    pub fn save(&self, rt: &HostRuntime) -> Outcome {
+        let Some(text) = &self.text else {
+            return Outcome::Done;
+        };
+        if is_special(rt, self.image.as_str()) {
+            return Outcome::Done;
+        }
+        let is_whole = self.lasting.tell(rt, self.path.as_str());
+        self.put(rt, text.as_slice()).and(Outcome::of(is_whole))
+    }
 }
 
 // ---- the sum that stands beside an image
+
+/// No sum has more bytes: a line of 73 bytes for each of at most 4,096 segments, and less than 512 in front
+/// of them.
+pub const MOST_BYTES: u64 = 73 * 4096 + 512;
 
 /// What an image is beside the file of its sum.
 #[derive(Drop)]
@@ -129,7 +171,10 @@ pub fn beside_sum(rt: &HostRuntime, path: &str, image: &[u8]) -> Result<Summed, 
         Err(error) if error.kind() == io::ErrorKind::NotFound => return Ok(Summed::Missing),
         _ => {}
     }
-    match read_file(rt, path.as_bytes()) {
+    if irregular(rt, path).is_some() {
+        return Ok(Summed::Unread);
+    }
+    match read_first(rt, path.as_bytes(), MOST_BYTES + 1) {
         Ok(text) => Ok(compared(rt.alloc(), image, text.as_slice())?),
         Err(FileFault::Unread) => Ok(Summed::Unread),
         Err(FileFault::Refused(_)) => Err(Fault::Memory),

@@ -1,15 +1,16 @@
 //! What is kept of the tree of an archive.
-use crate::faults::{Fault, fault_at, told};
-use crate::printing::path_text;
-use nl_folders::{Name, Path, Tree, begins_with, copied};
+use crate::faults::{Fault, fault_at, system_fault, told};
+use crate::gauge::{Gauge, MOST_BYTES, Stop};
+use crate::printing::Printer;
+use nl_folders::{Name, Path, Tree, begins_with};
 use nl_host::Reason;
 use nl_manifests::{Attributes, HostEntry, HostObject, HostTree, SealError, Time, seal};
 use nl_pins::is_of_pins;
-use nl_tar::{ArchiveError, Fault as ArchiveFault, InputError, Refusal, Unpacked};
-use nl_types::limits::{FILE_LIMIT, PATH_LENGTH_LIMIT, VOLUME_BLOCK_LIMIT};
-use nl_types::{BLOCK_SIZE, Items};
+use nl_tar::{Fault as ArchiveFault, Field, InputError, Limits, Loss, Note, Refusal, Unpacked};
+use nl_types::Items;
+use nl_types::limits::{FILE_LIMIT, PATH_LENGTH_LIMIT, PATH_LIMIT};
 use std::alloc::{AllocError, Global};
-use std::{io, str};
+use std::{fmt, io, str};
 
 /// What is said of what comes from standard input.
 pub const INPUT: &str = "standard input";
@@ -18,8 +19,16 @@ pub const INPUT: &str = "standard input";
 pub const TOO_MANY: &str =
     "has more files and folders than a volume takes, a manifest of each folder counted";
 
-/// The most bytes that a volume has.
-const MOST_BYTES: u64 = VOLUME_BLOCK_LIMIT as u64 * BLOCK_SIZE as u64;
+/// How much an archive may have. A name may be spelled by some bytes more than its path.
+pub const LIMITS: Limits = Limits {
+    file: FILE_LIMIT,
+    bytes: MOST_BYTES,
+    paths: PATH_LIMIT as u64,
+    name: PATH_LENGTH_LIMIT as u64 + 64,
+};
+
+/// The most bytes that the target of a link may have.
+const TARGET_LIMIT: usize = 4095;
 
 /// The name that a manifest has.
 const MANIFEST: &[u8] = b".nlkeep";
@@ -39,11 +48,35 @@ const USUAL: Attributes = Attributes {
     },
 };
 
+/// Why something of an archive isn't kept.
+#[derive(Clone, Copy)]
+pub enum Unkept {
+    /// As nothing of a host would be kept.
+    As(Reason),
+    /// It is a link whose target has more bytes than a system takes.
+    LongTarget,
+    Owner,
+    Group,
+    Date,
+}
+
+impl fmt::Display for Unkept {
+    fn fmt<W: fmt::Write>(&self, f: &mut fmt::Formatter<W>) -> fmt::Result {
+        match self {
+            Unkept::As(reason) => write!(f, "{reason}"),
+            Unkept::LongTarget => f.write_str("a link to what has more than 4095 bytes"),
+            Unkept::Owner => f.write_str("its owner, for whom no manifest has room: it is 0"),
+            Unkept::Group => f.write_str("its group, for which no manifest has room: it is 0"),
+            Unkept::Date => f.write_str("its date, for which no manifest has room: it is 1970"),
+        }
+    }
+}
+
 /// The tree of a volume that shows what an archive has, and what is left out of it.
 #[derive(Drop)]
 pub struct Kept {
     pub tree: Tree,
-    pub left_out: Items<(Path, Reason)>,
+    pub left_out: Items<(Path, Unkept)>,
 }
 
 // ---- entries
@@ -74,12 +107,21 @@ fn is_reserved(path: &[Name]) -> bool {
     }
 }
 
+fn has_long_target(object: &HostObject) -> bool {
+    match object {
+        HostObject::Link(target) => target.len() > TARGET_LIMIT,
+        _ => false,
+    }
+}
+
 /// Why an entry isn't kept, if it isn't.
-fn why_left_out(path: &[Name], object: &HostObject) -> Option<Reason> {
+fn why_left_out(path: &[Name], object: &HostObject) -> Option<Unkept> {
     if is_reserved(path) {
-        Some(Reason::Reserved)
+        Some(Unkept::As(Reason::Reserved))
     } else if needed_bytes(path, object) > PATH_LENGTH_LIMIT {
-        Some(Reason::LongPath)
+        Some(Unkept::As(Reason::LongPath))
+    } else if has_long_target(object) {
+        Some(Unkept::LongTarget)
     } else {
         None
     }
@@ -94,7 +136,7 @@ fn with_attributes(entry: HostEntry) -> HostEntry {
 }
 
 /// Whether a path is that of the last folder that was left out, or lies below it.
-fn is_below_last(path: &[Name], left_out: &[(Path, Reason)]) -> bool {
+fn is_below_last(path: &[Name], left_out: &[(Path, Unkept)]) -> bool {
     match left_out {
         [.., (last, _)] => begins_with(path, last.as_slice()),
         [] => false,
@@ -105,7 +147,7 @@ fn is_below_last(path: &[Name], left_out: &[(Path, Reason)]) -> bool {
 fn kept_entries(
     alloc: Global,
     tree: HostTree,
-    left_out: &mut Items<(Path, Reason)>,
+    left_out: &mut Items<(Path, Unkept)>,
 ) -> Result<HostTree, AllocError> {
     let mut kept = Items::new(alloc);
     for (path, entry) in tree.into_vec() {
@@ -120,59 +162,21 @@ fn kept_entries(
     Ok(kept)
 }
 
-fn note_special(
-    alloc: Global,
-    paths: &[Path],
-    left_out: &mut Items<(Path, Reason)>,
-) -> Result<(), AllocError> {
-    for path in paths {
-        left_out.push((copied(alloc, path.as_slice())?, Reason::Special))?;
-    }
-    Ok(())
-}
-
-// ---- limits
-
-fn file_bytes(object: &HostObject) -> u64 {
-    match object {
-        HostObject::File(bytes) => bytes.len() as u64,
-        _ => 0,
+/// Why what a note tells of isn't kept.
+fn why_noted(loss: Loss) -> Unkept {
+    match loss {
+        Loss::Special => Unkept::As(Reason::Special),
+        Loss::LongName => Unkept::As(Reason::LongPath),
+        Loss::Owner => Unkept::Owner,
+        Loss::Group => Unkept::Group,
+        Loss::Date => Unkept::Date,
     }
 }
 
-fn great_file_text(alloc: Global, path: &[Name], bytes: u64) -> io::Result<String> {
-    let path = path_text(alloc, path)?;
-    let path = str::from_utf8(path.as_slice()).unwrap_or("a file");
-    Ok(format!(in alloc;
-        "{INPUT}: {path}: has {bytes} bytes, and no volume takes files above 64M"
-    )?)
-}
-
-fn great_file_fault(alloc: Global, path: &[Name], bytes: u64) -> Fault {
-    match great_file_text(alloc, path, bytes) {
-        Ok(text) => Fault::Told(text),
-        Err(_) => Fault::Memory,
-    }
-}
-
-fn too_much_fault(alloc: Global, bytes: u64) -> Fault {
-    told(format!(in alloc;
-        "{INPUT}: has {bytes} bytes in files, and no volume has more than {MOST_BYTES}"
-    ))
-}
-
-/// Sees to it that a volume takes the files.
-fn judge_sizes(alloc: Global, tree: &[(Path, HostEntry)]) -> Result<(), Fault> {
-    let mut all: u64 = 0;
-    for (path, entry) in tree {
-        let bytes = file_bytes(&entry.object);
-        if bytes > FILE_LIMIT {
-            return Err(great_file_fault(alloc, path.as_slice(), bytes));
-        }
-        all = all.saturating_add(bytes);
-    }
-    if all > MOST_BYTES {
-        return Err(too_much_fault(alloc, all));
+/// What was noted as the archive was read.
+fn take_notes(notes: Items<Note>, left_out: &mut Items<(Path, Unkept)>) -> Result<(), AllocError> {
+    for Note { path, loss } in notes.into_vec() {
+        left_out.push((path, why_noted(loss)))?;
     }
     Ok(())
 }
@@ -194,26 +198,33 @@ pub fn sealed(
     }
 }
 
-/// The same of what an archive has, where a volume takes it.
-fn judged(alloc: Global, tree: &[(Path, HostEntry)]) -> Result<Tree, Fault> {
-    judge_sizes(alloc, tree)?;
-    sealed(alloc, INPUT, tree, "has a tree that no volume shows")
-}
-
 /// What is kept of an archive: all but devices and pipes, the name of manifests, paths above 4,095 bytes and
-/// what lies below these. A folder that the archive has no member of gets the usual attributes.
+/// what lies below these, links whose targets are longer than that, and owners and dates for which a manifest
+/// has no room. A folder that the archive has no member of gets the usual attributes.
 ///
 /// # Errors
-/// Files and trees that no volume takes.
+/// Trees that no volume takes.
 pub fn kept_of(alloc: Global, unpacked: Unpacked) -> Result<Kept, Fault> {
     let mut left_out = Items::new(alloc);
     let tree = kept_entries(alloc, unpacked.tree, &mut left_out)?;
-    note_special(alloc, unpacked.left_out.as_slice(), &mut left_out)?;
-    let tree = judged(alloc, tree.as_slice())?;
+    take_notes(unpacked.left_out, &mut left_out)?;
+    let unshown = "has a tree that no volume shows";
+    let tree = sealed(alloc, INPUT, tree.as_slice(), unshown)?;
     Ok(Kept { tree, left_out })
 }
 
 // ---- refusals
+
+/// What is said of a number that is none.
+fn number_text(field: Field) -> &'static str {
+    match field {
+        Field::Mode => "its mode is no number, or too great a one",
+        Field::Owner => "its owner is no number, or too great a one",
+        Field::Group => "its group is no number, or too great a one",
+        Field::Size => "its size is no number, or too great a one",
+        Field::Date => "its date is no number, or too great a one",
+    }
+}
 
 /// What is said of a fault of an archive.
 fn text_of(fault: ArchiveFault) -> &'static str {
@@ -221,26 +232,91 @@ fn text_of(fault: ArchiveFault) -> &'static str {
         ArchiveFault::CutShort => "the archive is cut short",
         ArchiveFault::BadChecksum => "no header of an archive is there",
         ArchiveFault::BadNumber => "a number that is none, or too great",
+        ArchiveFault::BadField(field) => number_text(field),
         ArchiveFault::BadRecord => "a record of an extended header that is none",
         ArchiveFault::BadName => "a name that can't stand in a path, or a link to nothing",
         ArchiveFault::UnknownKind => "a member of a kind that POSIX does not have",
-        ArchiveFault::Sparse => "a file with holes in the form of GNU tar, which is not read",
+        ArchiveFault::Sparse => SPARSE,
         ArchiveFault::NoTarget => "a hard link to no file or link before it",
         ArchiveFault::Taken => "a member below a file or a link, or in the place of a folder",
+        ArchiveFault::GreatFile(_) => "has more than 64M, and no volume takes such files",
+        ArchiveFault::TooMuch => TOO_MUCH,
+        ArchiveFault::TooMany => TOO_MANY,
+    }
+}
+
+/// What is said of a file with holes.
+const SPARSE: &str = "a file with holes in the form of GNU tar, which is not read: \
+    bsdtar --no-read-sparse, and tar without --sparse, write it whole";
+
+/// What is said of an archive with too many bytes.
+const TOO_MUCH: &str = "has more than 256M in files, and no volume takes that";
+
+/// The name of a member as an archive has it, with what stands behind it. Control characters of it would do
+/// harm at a terminal.
+fn member_text(alloc: Global, name: &[u8]) -> io::Result<Vec<u8>> {
+    let mut printer = Printer {
+        out: Vec::new(alloc),
+        is_terminal: true,
+    };
+    if !name.is_empty() {
+        printer.text(str::from_utf8(name).unwrap_or("a name that is no UTF-8"))?;
+        printer.text(": ")?;
+    }
+    Ok(printer.out)
+}
+
+/// What is said of the member whose header stands at a byte.
+fn member_fault(alloc: Global, offset: u64, name: &[u8], text: &str) -> Fault {
+    match member_text(alloc, name) {
+        Ok(member) => {
+            let member = str::from_utf8(member.as_slice()).unwrap_or("");
+            told(format!(in alloc; "{INPUT}: byte {offset}: {member}{text}"))
+        }
+        Err(_) => Fault::Memory,
+    }
+}
+
+fn great_file_fault(alloc: Global, offset: u64, name: &[u8], bytes: u64) -> Fault {
+    match format!(in alloc; "has {bytes} bytes, and no volume takes files above 64M") {
+        Ok(text) => member_fault(alloc, offset, name, text.as_str()),
+        Err(_) => Fault::Memory,
     }
 }
 
 /// What is said of an archive that is refused.
-fn refusal_fault(alloc: Global, refusal: Refusal) -> Fault {
-    let (offset, text) = (refusal.offset, text_of(refusal.fault));
-    told(format!(in alloc; "{INPUT}: byte {offset}: {text}"))
+fn refusal_fault(alloc: Global, refusal: Refusal, name: &[u8]) -> Fault {
+    let offset = refusal.offset;
+    match refusal.fault {
+        ArchiveFault::GreatFile(bytes) => great_file_fault(alloc, offset, name, bytes),
+        ArchiveFault::TooMuch => fault_at(alloc, INPUT, TOO_MUCH),
+        ArchiveFault::TooMany => fault_at(alloc, INPUT, TOO_MANY),
+        fault => member_fault(alloc, offset, name, text_of(fault)),
+    }
+}
+
+/// What is said of an archive that isn't read to its end.
+fn stop_fault(alloc: Global, stop: &Stop) -> Fault {
+    match stop {
+        Stop::Compressed(by) => told(format!(in alloc;
+            "{INPUT}: is compressed by {by}: it can be read behind {by} -dc"
+        )),
+        Stop::GreatFile(offset, bytes, name) => {
+            great_file_fault(alloc, *offset, name.as_slice(), *bytes)
+        }
+        Stop::TooMuch => fault_at(alloc, INPUT, TOO_MUCH),
+        Stop::Unread(error) => system_fault(alloc, INPUT, "cannot be read", error),
+    }
 }
 
 /// Why there is no tree of what standard input gives.
-pub fn input_fault(alloc: Global, error: InputError) -> Fault {
+pub fn input_fault(alloc: Global, error: InputError, gauge: &Gauge) -> Fault {
+    if let Some(stop) = &gauge.stop {
+        return stop_fault(alloc, stop);
+    }
     match error {
         InputError::Unread => fault_at(alloc, INPUT, "cannot be read"),
-        InputError::Archive(ArchiveError::Memory) => Fault::Memory,
-        InputError::Archive(ArchiveError::Refused(refusal)) => refusal_fault(alloc, refusal),
+        InputError::Memory => Fault::Memory,
+        InputError::Refused(refusal, name) => refusal_fault(alloc, refusal, name.as_slice()),
     }
 }

@@ -2,7 +2,7 @@
 use crate::amounts::size_at;
 use crate::asking::Clock;
 use crate::checkpoints::{meant, rows};
-use crate::faults::{Fault, fault_at, tree_fault, volume_fault};
+use crate::faults::{Escaped, Fault, fault_at, told, tree_fault, volume_fault};
 use crate::images::{open_image, read_image};
 use crate::moments::shown;
 use crate::parts::path_said;
@@ -37,7 +37,7 @@ pub fn latest_stamp(rows: &[Row]) -> u64 {
 
 impl<'a> View<'a> {
     /// What is to be seen of the volume of an image. `path` is where that stands.
-    fn silent(alloc: Global, path: &'a str, image: &[u8]) -> Result<View<'a>, Fault> {
+    pub fn silent(alloc: Global, path: &'a str, image: &[u8]) -> Result<View<'a>, Fault> {
         let mut volume = open_image(alloc, path, image)?;
         let rows = rows(alloc, path, &mut volume.pen)?;
         Ok(View { path, volume, rows })
@@ -68,7 +68,26 @@ impl<'a> View<'a> {
             let date = shown(rt.alloc(), &clock.zone, latest)?;
             let _ = eprintln!(rt;
                 "nlkeep: {}: the latest checkpoint is of {date}, which the clock has not reached",
-                self.path
+                Escaped(self.path)
+            );
+        }
+        Ok(())
+    }
+
+    /// Tells a person that the latest checkpoint is later than the moment that is asked for, where it is: the
+    /// next one has its date. Where the clock has not reached that either, it is told as such.
+    pub fn tell_earlier(
+        &self,
+        rt: &HostRuntime,
+        clock: &Clock<'_>,
+        moment: u64,
+    ) -> Result<(), Fault> {
+        let latest = latest_stamp(self.rows.as_slice());
+        if moment < latest && latest <= clock.now {
+            let date = shown(rt.alloc(), &clock.zone, latest)?;
+            let _ = eprintln!(rt;
+                "nlkeep: {}: the latest checkpoint is of {date}, later than --at, so this one is too",
+                Escaped(self.path)
             );
         }
         Ok(())
@@ -104,8 +123,8 @@ impl<'a> View<'a> {
         }
     }
 
-    /// The bytes of the file that has the pins of the volume, none where there is no such file. Pins are read of
-    /// the current tree alone.
+    /// The bytes of the file that has the pins of the volume, none where there is no such file. Pins are read
+    /// of the current tree alone.
     pub fn pins_file(&self, alloc: Global) -> Result<Option<Items<u8>>, Fault> {
         let path = path_of_pins(alloc)?;
         let mut folder = self.folder_of(self.pen().latest());
@@ -177,7 +196,8 @@ impl<'a> View<'a> {
                 Err(fault_at(alloc, word, "is a folder"))
             }
             Err(FolderError::Refused(error)) if is_of_no_entry(error) => {
-                Err(fault_at(alloc, word, "nothing is there"))
+                let shown = self.shown_tree(alloc, number)?;
+                Err(no_file_fault(alloc, word, find_in(shown.as_slice(), path.as_slice())))
             }
             Err(error) => Err(tree_fault(alloc, self.path, error)),
         }
@@ -223,6 +243,24 @@ impl<'a> View<'a> {
     /// The tree of the latest checkpoint of all, without its pins.
     pub fn present_tree(&self, alloc: Global) -> Result<Tree, Fault> {
         self.tree_of(alloc, self.pen().latest())
+    }
+}
+
+/// That no file stands at the path that a word says, but a link, or nothing.
+fn no_file_fault(alloc: Global, word: &str, entry: Option<&HostEntry>) -> Fault {
+    match entry.map(|entry| &entry.object) {
+        Some(HostObject::Link(target)) => link_fault(alloc, word, target.as_slice()),
+        _ => fault_at(alloc, word, "nothing is there"),
+    }
+}
+
+fn link_fault(alloc: Global, word: &str, target: &[u8]) -> Fault {
+    match String::from_utf8_lossy(alloc, target) {
+        Ok(target) => {
+            let (word, target) = (Escaped(word), Escaped(target.as_str()));
+            told(format!(in alloc; "{word}: is a link to {target}"))
+        }
+        Err(_) => Fault::Memory,
     }
 }
 
