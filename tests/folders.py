@@ -1,5 +1,6 @@
 """What the tests of nlkeep stand on: folders of the host, and runs of the program that is tried."""
 
+import json
 import os
 import random
 import shutil
@@ -11,6 +12,9 @@ import programs
 
 PROGRAM = programs.program_of("nlkeep", sys.argv[1] if len(sys.argv) > 1 else None)
 BLOCK = 1024
+
+# What is told of a word that is no size of a volume.
+NO_SIZE = "no size from 512K to 256M, in the form of 8M, 8192K or 8388608"
 
 
 def due(seen, expected, what):
@@ -75,6 +79,15 @@ def refused(image, text, *words):
     due((came, output, errors.decode()), (2, b"", f"nlkeep: {text}\n"), " ".join(words))
     due(got(image) if os.path.isfile(image) else None, before, f"the image behind {' '.join(words)}")
     due([it for it in os.listdir(os.path.dirname(image) or ".") if "nlvol-save" in it], [], "files beside the image")
+
+
+def full_text(image, new, size):
+    """What nlkeep tells where an image has no room for so many bytes of new blocks, and its volume may have a size in K
+    or M, below 256M."""
+    most = int(size[:-1]) * (1 << 20 if size[-1] == "M" else 1 << 10)
+    left = most - BLOCK * json.loads(done("df", image, "--json"))["needed"]
+    return (f"{image}: is full: {new} bytes are new in blocks of files, and a volume of {size} has at most {left} beside "
+            "what its checkpoints need. Room comes by `forget`, `prune`, a larger --max, or a backup with --exclude")
 
 
 def new_image(size="8M"):
