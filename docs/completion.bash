@@ -1,17 +1,19 @@
 # Completion for bash of nlkeep and nlvol: source it, or lay it in /etc/bash_completion.d.
 
 _nlkeep_options() {
+    # (echo would take -n for itself in front)
     case $1 in
     init) echo --size --at ;;
-    backup) echo -n --plain --exclude --max --at ;;
+    backup) echo --plain --one-file-system --exclude --max --at -n -q ;;
     restore) echo --path --owners ;;
     list) echo -a -l --json ;;
     check) echo -a --json ;;
     ls | diff | history | df) echo --json ;;
     pin) echo -d --max --at ;;
-    copy) echo --max ;;
-    forget | revert | untar) echo --max --at ;;
-    prune) echo --last --hourly --daily --weekly --monthly --yearly -n --at ;;
+    copy) echo --max -q ;;
+    forget) echo --max --at ;;
+    revert | untar) echo --max --at -q ;;
+    prune) echo --last --hourly --daily --weekly --monthly --yearly -n -q --at ;;
     esac
 }
 
