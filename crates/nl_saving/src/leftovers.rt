@@ -1,5 +1,6 @@
 //! Files that saves left beside the file that they were to replace, since they were cut off.
-ghost use Rattle.std.specs.Prelude.{◌≡◌, ◌++◌, ◌<◌, IfOk, MatchOption, codes, length, string_bytes};
+ghost use Rattle.std.specs.Prelude.{◌≡◌, ◌++◌, ◌<◌, ◌≤◌, IfOk, IfSome, MatchOption, codes, length};
+ghost use Rattle.std.specs.Prelude.{string_bytes};
 ghost use Rattle.std.specs.Fmt.{decimal};
 ghost use Rattle.nl_saving.specs.Files.{IsUnread};
 ghost use Rattle.std.specs.Prelude.{IfErr};
@@ -36,8 +37,10 @@ pub struct Leftovers {
 /// The name that a save gives its file beside the one of this name. None where that is cut, so that other files may
 /// have it too.
 pub fn whole_name(alloc: Global, name: &str, number: u8) -> Result<Option<String>, AllocError>
-    ensures { IfOk result (λ whole. MatchOption whole (240 < length name.now)
-        (λ side. string_bytes side ≡ codes "." ++ (name.now ++ (codes ".nlvol-save-" ++ decimal number)))) }
+    ensures cut { IfOk result (λ whole. MatchOption whole (240 < length name.now)
+        (λ side. length name.now ≤ 240)) }
+    ensures name { IfOk result (λ whole. IfSome whole (λ side. string_bytes side
+        ≡ codes "." ++ (name.now ++ (codes ".nlvol-save-" ++ decimal number)))) }
 {
     if name.len() > MOST_BYTES {
         return Ok(None);
