@@ -1,6 +1,5 @@
--- Which checkpoints of a volume come over into another one. Rows ascend by their numbers, and so do their dates.
+-- Which checkpoints of a volume come over into another one. Rows ascend by their numbers, and their dates never fall.
 use Rattle.std.specs.Prelude.{ℕ, suc, ◌&&◌, ◌||◌, ◌==◌, nat_le, nat_lt, Bool, true, false, not, if◌then◌else◌, List, [], ◌∷◌, ◌++◌}
-use Rattle.nl_types.specs.declared.row.Row.{Row}
 use Rattle.nl_words.specs.declared.copying.Kept.{Kept}
 use Rattle.nl_words.specs.Own.{is_plain_minor}
 
@@ -46,23 +45,24 @@ latest_stamp stamp (k ∷ rows) = latest_stamp k.row.stamp rows
 
 -- ---- which come over
 
+-- those that are chosen, by those so far, which end with it
+abbrev pub chosen : (List Kept → Kept → Bool) → (so_far : List Kept) → List Kept → List Kept
+chosen choose so_far [] = []
+chosen choose so_far (k ∷ rows) =
+    let now = so_far ++ k ∷ [] in
+    let rest = chosen choose now rows in
+    if choose now k then k ∷ rest else rest
+
 -- it is later than all others, or of the latest date, and they lack it
 abbrev pub comes : (latest : ℕ) → (others so_far : List Kept) → Kept → Bool
 comes latest others so_far k =
     is_own k && (nat_lt latest k.row.stamp || (k.row.stamp == latest && is_lacking others so_far k))
 
-abbrev pub coming_from : (latest : ℕ) → (others so_far : List Kept) → List Kept → List Row
-coming_from latest others so_far [] = []
-coming_from latest others so_far (k ∷ rows) =
-    let now = so_far ++ k ∷ [] in
-    let rest = coming_from latest others now rows in
-    if comes latest others now k then k.row ∷ rest else rest
-
 -- of two volumes that begin with the empty tree the first ones stand for one another
-abbrev pub coming : (rows others : List Kept) → List Row
+abbrev pub coming : (rows others : List Kept) → List Kept
 coming rows others =
     let passed = begin_alike rows others in
-    coming_from (latest_stamp 0 others) (behind_first passed others) [] (behind_first passed rows)
+    chosen (comes (latest_stamp 0 others) (behind_first passed others)) [] (behind_first passed rows)
 
 -- ---- which can't
 
@@ -70,14 +70,7 @@ coming rows others =
 abbrev pub is_missing : (latest : ℕ) → (others so_far : List Kept) → Kept → Bool
 is_missing latest others so_far k = is_own k && (nat_lt k.row.stamp latest && is_lacking others so_far k)
 
-abbrev pub missing_from : (latest : ℕ) → (others so_far : List Kept) → List Kept → List Row
-missing_from latest others so_far [] = []
-missing_from latest others so_far (k ∷ rows) =
-    let now = so_far ++ k ∷ [] in
-    let rest = missing_from latest others now rows in
-    if is_missing latest others now k then k.row ∷ rest else rest
-
-abbrev pub missing : (rows others : List Kept) → List Row
+abbrev pub missing : (rows others : List Kept) → List Kept
 missing rows others =
     let passed = begin_alike rows others in
-    missing_from (latest_stamp 0 others) (behind_first passed others) [] (behind_first passed rows)
+    chosen (is_missing (latest_stamp 0 others) (behind_first passed others)) [] (behind_first passed rows)

@@ -1,6 +1,6 @@
 //! Which checkpoints of a volume come over into another one.
 ghost use Rattle.std.specs.Prelude.{◌≡◌, ◌≤◌, [], IfOk, length};
-ghost use Rattle.nl_words.specs.Coming.{are_alike, begin_alike, behind_first, comes, coming, coming_from, count_like, is_empty, is_lacking, is_missing, latest_stamp, missing, missing_from};
+ghost use Rattle.nl_words.specs.Coming.{are_alike, begin_alike, behind_first, chosen, comes, coming, count_like, is_empty, is_lacking, is_missing, latest_stamp, missing};
 
 use crate::own::is_plain_minor;
 use nl_types::Row;
@@ -102,13 +102,14 @@ fn coming_of(
     latest: u64,
     rows: &[Kept],
     others: &[Kept],
-) -> Result<Vec<Row>, AllocError>
-    ensures { IfOk result (λ all. all.items ≡ coming_from latest others.now [] rows.now) }
+) -> Result<Vec<Kept>, AllocError>
+    ensures { IfOk result (λ all. all.items
+        ≡ chosen (comes latest others.now) [] rows.now) }
 {
     let mut all = Vec::new(alloc);
     for place in 0..rows.len() {
         if comes(latest, others, &rows[..place + 1], &rows[place]) {
-            all.push(rows[place].row)?;
+            all.push(rows[place])?;
         }
     }
     Ok(all)
@@ -121,7 +122,7 @@ fn coming_of(
 ///
 /// # Errors
 /// Memory.
-pub fn coming(alloc: Global, rows: &[Kept], others: &[Kept]) -> Result<Vec<Row>, AllocError>
+pub fn coming(alloc: Global, rows: &[Kept], others: &[Kept]) -> Result<Vec<Kept>, AllocError>
     ensures { IfOk result (λ all. all.items ≡ coming rows.now others.now) }
 {
     let is_passed = begin_alike(rows, others);
@@ -150,13 +151,14 @@ fn missing_of(
     latest: u64,
     rows: &[Kept],
     others: &[Kept],
-) -> Result<Vec<Row>, AllocError>
-    ensures { IfOk result (λ all. all.items ≡ missing_from latest others.now [] rows.now) }
+) -> Result<Vec<Kept>, AllocError>
+    ensures { IfOk result (λ all. all.items
+        ≡ chosen (is_missing latest others.now) [] rows.now) }
 {
     let mut all = Vec::new(alloc);
     for place in 0..rows.len() {
         if is_missing(latest, others, &rows[..place + 1], &rows[place]) {
-            all.push(rows[place].row)?;
+            all.push(rows[place])?;
         }
     }
     Ok(all)
@@ -167,7 +169,7 @@ fn missing_of(
 ///
 /// # Errors
 /// Memory.
-pub fn missing(alloc: Global, rows: &[Kept], others: &[Kept]) -> Result<Vec<Row>, AllocError>
+pub fn missing(alloc: Global, rows: &[Kept], others: &[Kept]) -> Result<Vec<Kept>, AllocError>
     ensures { IfOk result (λ all. all.items ≡ missing rows.now others.now) }
 {
     let is_passed = begin_alike(rows, others);

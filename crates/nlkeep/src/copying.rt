@@ -163,8 +163,8 @@ fn rows_of(alloc: Global, view: &View<'_>, stamp: u64, trees: &[Tree]) -> Result
 /// What comes over into another volume, and what can't any more.
 #[derive(Drop)]
 struct Choice {
-    coming: Vec<Row>,
-    missing: Vec<Row>,
+    coming: Vec<Kept>,
+    missing: Vec<Kept>,
 }
 
 impl Choice {
@@ -232,9 +232,9 @@ struct Copying<'a> {
 
 impl Copying<'_> {
     /// Tells the checkpoints that can't come over any more.
-    fn tell_missing(&self, rt: &HostRuntime, missing: &[Row]) -> Result<(), Fault> {
-        for row in missing {
-            tell_left_out(rt, self.clock, self.path, row)?;
+    fn tell_missing(&self, rt: &HostRuntime, missing: &[Kept]) -> Result<(), Fault> {
+        for earlier in missing {
+            tell_left_out(rt, self.clock, self.path, &earlier.row)?;
         }
         Ok(())
     }
@@ -281,9 +281,9 @@ impl Copying<'_> {
             plain: Vec::new(alloc),
             count: 0,
         };
-        for row in target.choice.coming.as_slice() {
-            self.add(alloc, row, target, &mut copied)?;
-            self.tell_copied(alloc, row, text)?;
+        for next in target.choice.coming.as_slice() {
+            self.add(alloc, &next.row, target, &mut copied)?;
+            self.tell_copied(alloc, &next.row, text)?;
         }
         Ok(copied)
     }
