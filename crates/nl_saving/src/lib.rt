@@ -24,6 +24,7 @@ pub use keeping::kept_name;
 pub use leftovers::{Leftover, Leftovers, whole_name};
 pub use marked::{is_marked, save_marked};
 pub use saving::{InUse, SavePlace, Saved};
+pub use sides::{SideNames, side_names};
 pub use sparse::{SparseFile, write_sparse};
 pub use standing::behind_links;
 pub use streams::StandIns;

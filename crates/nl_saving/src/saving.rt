@@ -169,7 +169,7 @@ fn write_into<R: Files<File = File>>(files: &R, path: &str, bytes: &[u8]) -> io:
     let _ = how.write(true);
     let mut file = how.open(files, path)?;
     if file.metadata()?.is_file() {
-        return Err(io::Error::from(ErrorKind::AlreadyExists));
+        return Err(io::Error::from(ErrorKind::ResourceBusy));
     }
     file.write_all(bytes)
 }
@@ -228,8 +228,9 @@ impl SavePlace<'_> {
     /// its owner alone may read and write it. What is no regular file, such as a device, is written to as it is.
     ///
     /// # Errors
-    /// Those of the system, and `AlreadyExists` where no name is free for the new file. The file is as it was
-    /// then, if it is a regular one, and no other one is left.
+    /// Those of the system; `AlreadyExists` where no name is free for the new file, which `side_names` tells; and
+    /// `ResourceBusy` where what was no regular file became one just now. The file is as it was then, if it is a
+    /// regular one, and no other one is left.
     pub fn save<R: AllocGlobal + Files<File = File>>(
         &mut self,
         rt: &R,

@@ -31,6 +31,23 @@ pub fn side_name(alloc: Global, name: &str, number: u8) -> Result<String, AllocE
     format!(in alloc; ".{begin}.nlvol-save-{number}")
 }
 
+/// The names that a new file beside a file may have, by their ends.
+#[derive(Drop)]
+pub struct SideNames {
+    pub first: String,
+    pub last: String,
+}
+
+/// The names that a new file beside the one of this name may have.
+pub fn side_names(alloc: Global, name: &str) -> Result<SideNames, AllocError>
+    ensures first { IfOk result (λ names. IsSideName name.now 0 (string_bytes names.first)) }
+    ensures last { IfOk result (λ names. IsSideName name.now 99 (string_bytes names.last)) }
+{
+    let first = side_name(alloc, name, 0)?;
+    let last = side_name(alloc, name, NAMES - 1)?;
+    Ok(SideNames { first, last })
+}
+
 /// A new file, and its path. It is locked where the system has locks, and its path leads to it then.
 #[derive(Drop)]
 pub struct Side {

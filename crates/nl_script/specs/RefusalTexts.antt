@@ -60,6 +60,12 @@ unwritten_text path = path ++ (codes ": cannot be written" ++ (line_feed ∷ [])
 abbrev pub in_use_text : (path : List ℕ) → Text
 in_use_text path = path ++ (codes ": is in use by another program" ++ (line_feed ∷ []))
 
+-- no name is free for the new file that was to replace the file: these and those between them are taken
+abbrev pub taken_text : (path first last : List ℕ) → Text
+taken_text path first last =
+    path ++ (codes ": cannot be written: beside it stand " ++ (first ++ (codes " to " ++ (last
+    ++ (codes ": move away those that are worth keeping, and remove the others" ++ (line_feed ∷ []))))))
+
 -- another program changed the file, and the image is in one beside it
 abbrev pub changed_text : (path side : List ℕ) → Text
 changed_text path side =

@@ -17,8 +17,8 @@ pub use checkpoints::{cp_header, cp_line, cp_lines};
 pub use columns::{left, right};
 pub use ends::Done;
 pub use refusals::{
-    StartStep, changed_text, in_use_text, refusal_text, save_text, start_text, unread_text,
-    unwritten_text, usage_text,
+    StartStep, changed_text, in_use_text, refusal_text, save_text, start_text, taken_text,
+    unread_text, unwritten_text, usage_text,
 };
 pub use segments::{SegmentRow, listed_seg_line, seg_header, seg_line, seg_lines};
 pub use streams::{StandardStream, notice_text, stream_text};

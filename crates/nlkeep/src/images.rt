@@ -13,9 +13,9 @@ use crate::sums::PlannedSum;
 use nl_core::{Pen, geometry_of, open};
 use nl_device::MemDevice;
 use nl_keep_pen::PenVolume;
-use nl_saving::{InUse, SavePlace, Saved};
+use nl_saving::{InUse, SavePlace, Saved, SideNames, side_names};
 use nl_types::VolError;
-use std::alloc::Global;
+use std::alloc::{AllocError, Global};
 use std::fs::File;
 use std::io::ErrorKind;
 use std::path::Path;
@@ -105,7 +105,7 @@ fn save_with(
         Ok(Saved::There) => Ok(sum.save(rt)),
         Ok(Saved::Beside(side)) => Err(changed_fault(rt.alloc(), path, side.as_str())),
         Err(error) if error.kind() == ErrorKind::AlreadyExists => {
-            Err(taken_fault(rt.alloc(), path, sum.image.as_path()))
+            Err(taken_fault(rt.alloc(), path, sum.image.as_path())?)
         }
         Err(error) => Err(system_fault(rt.alloc(), path, "cannot be written", &error)),
     }
@@ -116,10 +116,10 @@ fn changed_fault(alloc: Global, path: &str, side: &str) -> Fault {
 }
 
 /// No name is free for the new file of an image.
-fn taken_fault(alloc: Global, path: &str, image: Path<'_>) -> Fault {
-    let name = image.file_name().unwrap_or("");
-    told(format!(in alloc;
-        "{path}: cannot be written: beside it stand .{name}.nlvol-save-0 to .{name}.nlvol-save-99: \
+fn taken_fault(alloc: Global, path: &str, image: Path<'_>) -> Result<Fault, AllocError> {
+    let SideNames { first, last } = side_names(alloc, image.file_name().unwrap_or(""))?;
+    Ok(told(format!(in alloc;
+        "{path}: cannot be written: beside it stand {first} to {last}: \
          move away those that are worth keeping, and remove the others"
-    ))
+    )))
 }

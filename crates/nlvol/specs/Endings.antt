@@ -1,5 +1,5 @@
 -- How a session ends behind its script: where that is asked for, the volume's image is saved.
-use Rattle.std.specs.Prelude.{◌≡◌, ◌≢◌, ◌⊎◌, ◌++◌, ℕ, Bool, true, false, List, Option, None, Some, Ok, Err}
+use Rattle.std.specs.Prelude.{◌≡◌, ◌≢◌, ◌⊎◌, ◌++◌, ℕ, Bool, true, false, List, Option, None, Some, Ok, Err, string_bytes}
 use Rattle.nl_types.specs.declared.error.VolError.{VolError}
 use Rattle.nl_types.specs.declared.error.VolError.TheVariants.{Fault, Memory}
 use Rattle.nl_types.specs.declared.event.Event.TheVariants.{Checkpoint}
@@ -7,9 +7,11 @@ use Rattle.nl_types.specs.declared.event.Mode.TheVariants.{Plain}
 use Rattle.nl_types.specs.declared.reply.Answer.{Answer}
 use Rattle.nl_commit.specs.Layout.{Does, IsPen, Layout, unshared}
 use Rattle.nl_core.specs.PenImages.{CanBeClosed, IsPenImage}
+use Rattle.nl_saving.specs.SideNames.{IsSideName}
+use Rattle.nl_saving.specs.declared.sides.SideNames.{SideNames}
 use Rattle.nl_script.specs.Ends.{exit_status}
 use Rattle.nl_script.specs.declared.texts.ends.Done.{Done}
-use Rattle.nl_script.specs.RefusalTexts.{changed_text, save_text, unwritten_text}
+use Rattle.nl_script.specs.RefusalTexts.{changed_text, save_text, taken_text, unwritten_text}
 use Rattle.nl_script.specs.Texts.{Text}
 use Rattle.nlvol.specs.Telling.{Errors, Tells, failure_text}
 use Rattle.nlvol.specs.declared.ending.SaveFault.{SaveFault}
@@ -46,14 +48,24 @@ unsaved done = record done { refused = true }
 
 -- ---- why it isn't saved
 
--- the checkpoint or the image is refused; or its file isn't written, of which no contract speaks
+-- the ends of the names that a new file may have beside one of some name
+pub record AreSideNames (names : SideNames) : Type 0 where
+  pub name : Text
+  pub first_is : IsSideName name 0 (string_bytes names.first)
+  pub last_is : IsSideName name 99 (string_bytes names.last)
+
+-- the checkpoint or the image is refused; or its file isn't written, of which no contract speaks but for the
+-- names that are told
 abbrev pub IsSaveFault : (moment : ℕ) → Layout → SaveFault → Type 0
 IsSaveFault moment left (fault.Refused error) = IsSaveRefused moment left error
+IsSaveFault moment left (fault.Taken names) = AreSideNames names
 IsSaveFault moment left _ = Unit {0}
 
 -- what is told of it, with the path as it was given
 abbrev pub IsTextOf : (path : Text) → SaveFault → (text : Text) → Type 0
 IsTextOf path fault.Unwritten text = text ≡ unwritten_text path
+IsTextOf path (fault.Taken names) text =
+    text ≡ taken_text path (string_bytes names.first) (string_bytes names.last)
 IsTextOf path (fault.Refused error) text = text ≡ save_text error
 IsTextOf path (fault.Changed side) text = (beside : Text) × (text ≡ changed_text path beside)
 

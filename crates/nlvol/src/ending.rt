@@ -14,20 +14,22 @@ use crate::clearing::clear;
 use crate::telling::{SessionEnd, tell_stream};
 use nl_core::Pen;
 use nl_device::Device;
-use nl_saving::{SavePlace, Saved};
-use nl_script::texts::{Done, changed_text, save_text, unwritten_text};
+use nl_saving::{SavePlace, Saved, SideNames, behind_links, side_names};
+use nl_script::texts::{Done, changed_text, save_text, taken_text, unwritten_text};
 use nl_types::{Event, Mode, Reply, VolError};
 use std::fs::File;
-use std::io;
 use std::io::{Eprint, ErrorKind, Write};
 use std::path::PathBuf;
 use std::rt::Files;
+use std::{io, str};
 
 /// Why a volume isn't saved.
 #[derive(Drop)]
 pub enum SaveFault {
     /// The file can't be written.
     Unwritten,
+    /// No name is free for the new file that was to take its place.
+    Taken(SideNames),
     /// The last checkpoint or the image is refused, or there is no memory to write it.
     Refused(VolError),
     /// Another program changed the file. The image is in the one at this path.
@@ -81,6 +83,34 @@ fn write_fault(error: &io::Error) -> SaveFault
     SaveFault::Unwritten
 }
 
+/// Which names are taken, where none is free for the new file of a path.
+fn taken<R: AllocGlobal + Files>(rt: &R, path: &[u8]) -> io::Result<SaveFault>
+    ensures { IfOk result (λ fault. (moment : ℕ) (left : Layout) → IsSaveFault moment left fault) }
+{
+    let Ok(path) = str::from_utf8(path) else {
+        return Err(io::Error::from(ErrorKind::InvalidInput));
+    };
+    let target = behind_links(rt, path)?;
+    let Some(name) = target.as_path().file_name() else {
+        return Err(io::Error::from(ErrorKind::InvalidInput));
+    };
+    let names = side_names(rt.alloc(), name)?;
+    Ok(SaveFault::Taken(names))
+}
+
+/// Why an image isn't written at a path.
+fn place_fault<R: AllocGlobal + Files>(rt: &R, path: &[u8], error: &io::Error) -> SaveFault
+    ensures { (moment : ℕ) (left : Layout) → IsSaveFault moment left result }
+{
+    if error.kind() != ErrorKind::AlreadyExists {
+        return write_fault(error);
+    }
+    match taken(rt, path) {
+        Ok(fault) => fault,
+        Err(error) => write_fault(&error),
+    }
+}
+
 /// Writes an image at a place, where files of saves that were cut off are removed before. It stands apart
 /// from `save`, so that no volume is alive where it leaves.
 fn write_image<R: AllocGlobal + Files<File = File> + Eprint>(
@@ -94,7 +124,7 @@ fn write_image<R: AllocGlobal + Files<File = File> + Eprint>(
     match place.save(rt, image) {
         Ok(Saved::There) => Ok(()),
         Ok(Saved::Beside(side)) => Err(SaveFault::Changed(side)),
-        Err(error) => Err(write_fault(&error)),
+        Err(error) => Err(place_fault(rt, place.path, &error)),
     }
 }
 
@@ -122,6 +152,10 @@ fn tell_unsaved<E: Write>(path: &[u8], fault: &SaveFault, errors: &mut E) -> boo
 {
     match fault {
         SaveFault::Unwritten => unwritten_text(path, errors).is_ok(),
+        SaveFault::Taken(names) => {
+            let (first, last) = (names.first.as_bytes(), names.last.as_bytes());
+            taken_text(path, first, last, errors).is_ok()
+        }
         SaveFault::Refused(error) => save_text(*error, errors).is_ok(),
         SaveFault::Changed(side) => changed_text(path, side.as_str().as_bytes(), errors).is_ok(),
     }

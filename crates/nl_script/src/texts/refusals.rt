@@ -1,7 +1,7 @@
 //! Refusals, and lines that are no command.
 ghost use Rattle.std.specs.Prelude.{◌≡◌, OnOk};
 ghost use Rattle.std.specs.Io.KnownBytes.{Appends};
-ghost use Rattle.nl_script.specs.RefusalTexts.{changed_text, place_text, kind_text, detail_of, detail_text, in_use_text, refusal_text, save_text, start_text, step_text, unread_text, unwritten_text, usage_text};
+ghost use Rattle.nl_script.specs.RefusalTexts.{changed_text, place_text, kind_text, detail_of, detail_text, in_use_text, refusal_text, save_text, start_text, step_text, taken_text, unread_text, unwritten_text, usage_text};
 
 use nl_types::VolError;
 use std::io;
@@ -137,6 +137,20 @@ pub fn in_use_text<W: Write>(path: &[u8], out: &mut W) -> io::Result<()>
 {
     out.write_all(path)?;
     out.write_all(b": is in use by another program\n")
+}
+
+/// Writes that a file can't be written, since no name beside it is free for a new one: which ones are taken,
+/// the first and the last, and what to do.
+pub fn taken_text<W: Write>(path: &[u8], first: &[u8], last: &[u8], out: &mut W) -> io::Result<()>
+    ensures { OnOk result (Appends (W.contents out.old) (W.contents out.new)
+        (taken_text path.now first.now last.now)) }
+{
+    out.write_all(path)?;
+    out.write_all(b": cannot be written: beside it stand ")?;
+    out.write_all(first)?;
+    out.write_all(b" to ")?;
+    out.write_all(last)?;
+    out.write_all(b": move away those that are worth keeping, and remove the others\n")
 }
 
 /// Writes that another program changed a file, and where the image is that was to be in it.
