@@ -41,7 +41,9 @@ th, td {
 }
 .n { text-align: right; white-space: nowrap }
 .date { white-space: nowrap }
-.path, details { overflow-wrap: anywhere }
+.path, .kind, details { overflow-wrap: anywhere }
+.kind { min-width: 8rem }
+.changes { min-width: 14rem }
 ul { margin: .2rem 0; padding-left: 1.2rem }
 tr:target { outline: 2px solid var(--needed) }
 .quiet { color: var(--quiet) }
@@ -54,6 +56,7 @@ tr:target { outline: 2px solid var(--needed) }
 .dead { fill: var(--dead) }
 .other { fill: var(--other) }
 .error { fill: none; stroke: var(--error); stroke-width: 14 }
+.item { display: inline-block }
 .key { display: inline-block; width: .8em; height: .8em; margin: 0 .3em 0 1em; border-radius: 2px }
 .key.needed { background: var(--needed) }
 .key.dead { background: var(--dead) }
@@ -61,7 +64,7 @@ tr:target { outline: 2px solid var(--needed) }
 .key.clean { background: var(--clean); border: 1px solid var(--line) }
 .share { width: 40% }
 .bar { background: var(--needed); height: .7rem; min-width: 1px; border-radius: 2px; margin-top: .4rem }
-@media (max-width: 40rem) {
+@media (max-width: 52rem) {
   thead { display: none }
   table, tbody, tr, td { display: block }
   td, td.n { border: 0; padding: 0 0 0 6rem; min-height: 1.5em; text-align: left; white-space: normal }
@@ -70,6 +73,9 @@ tr:target { outline: 2px solid var(--needed) }
   tr { border-bottom: 1px solid var(--line); padding: .4rem 0 }
   .share { width: auto }
   .bar { margin-top: 0; position: relative; top: .4rem }
+  svg text { font-size: 20px }
+}
+@media (max-width: 40rem) {
   svg text { font-size: 36px }
 }
 </style>
@@ -100,8 +106,8 @@ tr:target { outline: 2px solid var(--needed) }
 <section id="checkpoints" aria-label="Checkpoints">
 <h2>Checkpoints</h2>
 <table>
-<thead><tr><th class="n">Number</th><th>Date</th><th>Kind</th><th class="n">Paths</th><th class="n">Bytes</th>
-<th>Changes</th></tr></thead>
+<thead><tr><th class="n">Number</th><th>Date</th><th class="kind">Kind</th><th class="n">Paths</th><th class="n">Bytes</th>
+<th class="changes">Changes</th></tr></thead>
 <tbody></tbody>
 </table>
 </section>
@@ -259,7 +265,7 @@ function addCheckpoint(body, checkpoint, isFirst) {
   const row = add(body, "tr", {id: `c${checkpoint.checkpoint}`});
   addNumber(row, "Number", checkpoint.checkpoint);
   addCell(row, "Date", checkpoint.date, "date");
-  addCell(row, "Kind", kindOf(checkpoint));
+  addCell(row, "Kind", kindOf(checkpoint), "kind");
   addNumber(row, "Paths", checkpoint.paths);
   addNumber(row, "Bytes", checkpoint.bytes);
   if (isFirst || checkpoint.changes.length === 0) {
@@ -324,8 +330,9 @@ function tellSegments() {
   const parts = [["needed", "needed", sumOf(segments, "needed")], ["dead", "dead", sumOf(segments, "dead")],
     ["other", "summaries of logs", sumOf(segments, "summaries")], ["clean", "clean or unused", unused]];
   for (const [colour, name, count] of parts) {
-    add(key, "span", {class: `key ${colour}`});
-    key.append(`${name}: ${count} blocks`);
+    const item = add(key, "span", {class: "item"});
+    add(item, "span", {class: `key ${colour}`});
+    item.append(`${name}: ${count} blocks`);
   }
   const clean = segments.filter(it => it.state === "clean").length;
   const failed = segments.filter(it => it.state === "in error").length;
