@@ -4,6 +4,7 @@ ghost use Rattle.nl_types.specs.declared.error.VolError;
 ghost use Rattle.nl_image.specs.Conditions.{AreImage, FirstFails};
 
 use crate::asking::{Outcome, word};
+use crate::complaining::complain;
 use crate::faults::{Fault, volume_fault};
 use crate::image_files::{Purpose, irregular, read_for};
 use crate::images::pen_of;
@@ -314,7 +315,7 @@ fn with_sum_told(rt: &HostRuntime, told: &Told<'_>, outcome: Outcome) -> Outcome
         return outcome;
     }
     let why = irregular(rt, told.sum_path).unwrap_or("cannot be read");
-    let _ = eprintln!(rt; "nlkeep: left out: {}: {why}", told.sum_path);
+    complain(rt, format_args!("left out: {}: {why}", told.sum_path));
     outcome.and(Outcome::Partly)
 }
 

@@ -1,4 +1,5 @@
 //! Files that saves of an image left beside it, since they were cut off.
+use crate::complaining::complain;
 use crate::faults::{Fault, system_fault};
 use crate::images::pen_of;
 use nl_saving::{Leftover, Leftovers, SavePlace};
@@ -36,10 +37,13 @@ fn fate_of(alloc: Global, left: &mut Leftover) -> Fate {
 
 fn remove(rt: &HostRuntime, left: &Leftover) {
     let path = left.path.as_str();
-    let _ = match left.remove(rt) {
-        Ok(()) => eprintln!(rt; "nlkeep: removed: {path}: left by a save that was cut off"),
-        Err(error) => eprintln!(rt; "nlkeep: {path}: cannot be removed: {error}"),
-    };
+    match left.remove(rt) {
+        Ok(()) => complain(
+            rt,
+            format_args!("removed: {path}: left by a save that was cut off"),
+        ),
+        Err(error) => complain(rt, format_args!("{path}: cannot be removed: {error}")),
+    }
 }
 
 fn clear_one(rt: &HostRuntime, left: &mut Leftover) {
@@ -47,13 +51,16 @@ fn clear_one(rt: &HostRuntime, left: &mut Leftover) {
         Fate::Removed => remove(rt, left),
         Fate::Whole => {
             let path = left.path.as_str();
-            let _ = eprintln!(rt;
-                "nlkeep: {path}: is a whole image, of a save that was cut off or a session that was kept: it stays"
+            complain(
+                rt,
+                format_args!(
+                    "{path}: is a whole image, of a save that was cut off or a session that was kept: it stays"
+                ),
             );
         }
         Fate::Unread => {
             let path = left.path.as_str();
-            let _ = eprintln!(rt; "nlkeep: {path}: cannot be read, and stays");
+            complain(rt, format_args!("{path}: cannot be read, and stays"));
         }
     }
 }
@@ -65,8 +72,11 @@ fn clear_all(rt: &HostRuntime, image: &str, left: Leftovers) {
         clear_one(rt, &mut file);
     }
     if !has_locks {
-        let _ = eprintln!(rt;
-            "nlkeep: {image}: files of saves that were cut off stay beside it, since there are no locks here"
+        complain(
+            rt,
+            format_args!(
+                "{image}: files of saves that were cut off stay beside it, since there are no locks here"
+            ),
         );
     }
 }

@@ -1,6 +1,7 @@
 //! `copy`: later checkpoints of one image come into another one, which may lie on a second disk.
 use crate::asking::{Clock, Outcome, most, word};
 use crate::checkpoints::is_minor;
+use crate::complaining::complain;
 use crate::faults::{Fault, system_fault, told, volume_fault};
 use crate::images::{open_image, read_image, take_place};
 use crate::making::new_image;
@@ -184,8 +185,9 @@ impl Choice {
 /// Tells of a checkpoint that can't come over any more.
 fn tell_left_out(rt: &HostRuntime, clock: &Clock<'_>, path: &str, row: &Row) -> Result<(), Fault> {
     let (number, date) = (row.number.get(), shown(rt.alloc(), &clock.zone, row.stamp)?);
-    let _ = eprintln!(rt;
-        "nlkeep: left out: checkpoint {number} of {date}: {path} has a later one"
+    complain(
+        rt,
+        format_args!("left out: checkpoint {number} of {date}: {path} has a later one"),
     );
     Ok(())
 }

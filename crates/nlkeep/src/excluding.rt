@@ -1,6 +1,7 @@
 //! What a person leaves out of a backup, and which words of that leave nothing out.
 use crate::asking::word;
-use crate::faults::{Escaped, Fault, fault_at};
+use crate::complaining::complain;
+use crate::faults::{Fault, fault_at};
 use clap::ArgMatches;
 use nl_folders::{Name, Path};
 use nl_host::Pattern;
@@ -133,8 +134,10 @@ pub fn tell_unmet(
     let words = matches.get_strs("exclude").unwrap_or(&[]);
     let unmet = unmet_words(rt, word(matches, "FOLDER"), tree, words)?;
     for one in unmet.as_slice() {
-        let word = Escaped(one.word);
-        let _ = eprintln!(rt; "nlkeep: --exclude {word}: leaves nothing out");
+        complain(
+            rt,
+            format_args!("--exclude {}: leaves nothing out", one.word),
+        );
     }
     Ok(())
 }

@@ -2,7 +2,7 @@
 use nl_folders::FolderError;
 use nl_types::VolError;
 use std::alloc::{AllocError, AllocFailed, Global};
-use std::{fmt, io};
+use std::io;
 
 /// The status of a command that is refused.
 pub const REFUSED: u8 = 2;
@@ -15,6 +15,8 @@ pub const PARTLY: u8 = 3;
 pub enum Fault {
     /// This is wrong. What the command is about stays as it was.
     Told(String),
+    /// This is wrong with each of these, too.
+    Listed(String, Vec<String>),
     /// There is no memory. All stays as it was.
     Memory,
     /// Standard output failed. All stays as it was.
@@ -27,7 +29,7 @@ impl Fault {
     /// The program's status.
     pub fn status(&self) -> u8 {
         match self {
-            Fault::Told(_) | Fault::Memory | Fault::Output(_) => REFUSED,
+            Fault::Told(_) | Fault::Listed(_, _) | Fault::Memory | Fault::Output(_) => REFUSED,
             Fault::Behind(_, _) => PARTLY,
         }
     }
@@ -55,25 +57,6 @@ impl From<io::Error> for Fault {
     }
 }
 
-/// A text that isn't ours, as a line on standard error has it: control characters are escaped, which would do
-/// harm at a terminal.
-#[derive(Clone, Copy)]
-pub struct Escaped<'a>(pub &'a str);
-
-impl fmt::Display for Escaped<'_> {
-    fn fmt<W: fmt::Write>(&self, f: &mut fmt::Formatter<W>) -> fmt::Result {
-        let Escaped(text) = *self;
-        for character in text.chars() {
-            if character.is_control() {
-                write!(f, "\\u{{{:x}}}", u32::from(character))?;
-            } else {
-                write!(f, "{character}")?;
-            }
-        }
-        Ok(())
-    }
-}
-
 /// What is wrong, by a text for which memory may have lacked.
 pub fn told(text: Result<String, AllocError>) -> Fault {
     match text {
@@ -84,7 +67,6 @@ pub fn told(text: Result<String, AllocError>) -> Fault {
 
 /// What is wrong with what stands at a path, or with a word.
 pub fn fault_at(alloc: Global, path: &str, what: &str) -> Fault {
-    let path = Escaped(path);
     told(format!(in alloc; "{path}: {what}"))
 }
 
@@ -93,7 +75,6 @@ pub fn system_fault(alloc: Global, path: &str, what: &str, error: &io::Error) ->
     if error.kind() == io::ErrorKind::OutOfMemory {
         return Fault::Memory;
     }
-    let path = Escaped(path);
     told(format!(in alloc; "{path}: {what}: {error}"))
 }
 
@@ -107,10 +88,7 @@ pub fn volume_fault(alloc: Global, image: &str, error: VolError) -> Fault {
             "is no image of a volume, or a damaged one",
         ),
         VolError::NoSpace => fault_at(alloc, image, "is full"),
-        _ => {
-            let image = Escaped(image);
-            told(format!(in alloc; "{image}: {error}"))
-        }
+        _ => told(format!(in alloc; "{image}: {error}")),
     }
 }
 

@@ -4,7 +4,7 @@ use crate::faults::{Fault, fault_at, told, volume_fault};
 use crate::images::{device_for, read_image, take_place};
 use crate::printing::Printer;
 use crate::telling::{News, done_to};
-use crate::views::View;
+use crate::views::{Made, View};
 use clap::ArgMatches;
 use nl_keep_pen::{Round, RoundIfShort, forget_image};
 use nl_saving::SavePlace;
@@ -57,17 +57,19 @@ fn ranges_said(alloc: Global, words: &[&str], rows: &[Row]) -> Result<Vec<Number
     Ok(ranges)
 }
 
-/// The checkpoints of an image that are to be forgotten, one after another. A late date is told.
+/// The checkpoints of an image that are to be forgotten at a moment, one after another. A late date is told.
 fn numbers_said(
     rt: &HostRuntime,
     path: &str,
     image: &[u8],
     words: &[&str],
     clock: &Clock<'_>,
+    moment: u64,
 ) -> Result<Vec<CheckpointNumber>, Fault> {
     let view = View::of(rt, path, image, clock)?;
     let rows = view.rows.as_slice();
     let ranges = ranges_said(rt.alloc(), words, rows)?;
+    view.tell_earlier(rt, clock, moment, Made::Minor)?;
     Ok(going(rt.alloc(), ranges.as_slice(), rows)?)
 }
 
@@ -120,10 +122,10 @@ fn forget_in<W: Write>(
 ) -> Result<Outcome, Fault> {
     let path = word(matches, "IMAGE");
     let words = matches.get_strs("R").unwrap_or(&[]);
-    let image = read_image(rt, path)?;
-    let numbers = numbers_said(rt, path, image.as_slice(), words, clock)?;
     let moment = moment(rt, matches, clock.now)?;
     most(rt, matches)?;
+    let image = read_image(rt, path)?;
+    let numbers = numbers_said(rt, path, image.as_slice(), words, clock, moment)?;
     forget_numbers(
         rt,
         path,

@@ -1,6 +1,6 @@
 //! That a volume has no room for a tree, with what is known of both.
 use crate::df::needed_bytes;
-use crate::faults::{Escaped, Fault};
+use crate::faults::Fault;
 use crate::sizes::{MOST, SEGMENT_BYTES, Size};
 use crate::storing::Wanted;
 use crate::views::View;
@@ -80,7 +80,7 @@ fn full_text(alloc: Global, path: &str, image: &[u8], wanted: &Wanted) -> Result
     let written = new_bytes(alloc, earlier.as_slice(), wanted.tree.as_slice())?;
     let size = greatest_size(&view, wanted.most);
     let left = size.saturating_sub(needed_bytes(alloc, path, view.pen())?);
-    let (path, size, help) = (Escaped(path), Size(size), help_for(size));
+    let (size, help) = (Size(size), help_for(size));
     Ok(format!(in alloc;
         "{path}: is full: {written} bytes are new in blocks of files, and a volume of {size} has at most \
          {left} beside what its checkpoints need. Room comes by {help}"

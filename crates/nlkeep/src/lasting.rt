@@ -2,6 +2,7 @@
 //!
 //! The image that stands there is read once more, segment by segment, and compared with its sum. A segment
 //! that is the same in the image that is to be saved isn't digested again.
+use crate::complaining::complain;
 use crate::faults::Fault;
 use crate::sums::MOST_BYTES;
 use nl_damage::sums::{Digest, Save, Sum, read_sum};
@@ -190,16 +191,20 @@ impl Lasting {
     /// Tells what was damaged. Answers whether nothing was, for all that is known.
     pub fn tell(&self, rt: &HostRuntime, sum: &str) -> bool {
         if let Some(error) = &self.unread {
-            let _ = eprintln!(rt;
-                "nlkeep: left out: {sum}: is not compared with the old image: {error}"
+            complain(
+                rt,
+                format_args!("left out: {sum}: is not compared with the old image: {error}"),
             );
         }
         for damaged in &self.damaged {
             let segment = damaged.segment;
             let begin = self.size.saturating_mul(segment).saturating_add(self.front);
             let last = begin.saturating_add(self.size).saturating_sub(1);
-            let _ = eprintln!(rt;
-                "nlkeep: damaged before this save: segment {segment} differs from {sum}: bytes {begin} to {last}"
+            complain(
+                rt,
+                format_args!(
+                    "damaged before this save: segment {segment} differs from {sum}: bytes {begin} to {last}"
+                ),
             );
         }
         self.unread.is_none() && self.damaged.is_empty()

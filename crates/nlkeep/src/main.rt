@@ -9,6 +9,7 @@ mod checking;
 mod checkpoints;
 mod clearing;
 mod comparing;
+mod complaining;
 mod copying;
 mod df;
 mod excluding;
@@ -50,6 +51,7 @@ mod views;
 
 use asking::{Clock, Outcome};
 use clap::ArgMatches;
+use complaining::{complain, complain_more, complain_whole};
 use faults::{Fault, REFUSED};
 use jiff::tz::TimeZone;
 use moments::{Zones, now};
@@ -149,13 +151,25 @@ fn run_command(rt: &HostRuntime, matches: &ArgMatches<'_>) -> Result<u8, Fault> 
     run_in_zone(rt, name, matches, zones.zone())
 }
 
+fn tell_lines(rt: &HostRuntime, lines: &[String]) {
+    for line in lines {
+        complain_more(rt, format_args!("  {line}"));
+    }
+}
+
 fn tell_fault(rt: &HostRuntime, fault: &Fault) -> u8 {
-    let _ = match fault {
-        Fault::Told(text) => eprintln!(rt; "nlkeep: {text}"),
-        Fault::Memory => eprintln!(rt; "nlkeep: there is no memory"),
-        Fault::Output(error) => eprintln!(rt; "nlkeep: standard output: {error}"),
-        Fault::Behind(done, error) => { eprintln!(rt; "nlkeep: {done}; standard output: {error}") }
-    };
+    match fault {
+        Fault::Told(text) => complain(rt, text),
+        Fault::Listed(text, lines) => {
+            complain(rt, text);
+            tell_lines(rt, lines.as_slice());
+        }
+        Fault::Memory => complain(rt, "there is no memory"),
+        Fault::Output(error) => complain(rt, format_args!("standard output: {error}")),
+        Fault::Behind(done, error) => {
+            complain(rt, format_args!("{done}; standard output: {error}"));
+        }
+    }
     fault.status()
 }
 
@@ -167,7 +181,7 @@ fn tell_words(rt: &HostRuntime, error: &clap::Error) -> u8 {
             Err(_) => REFUSED,
         }
     } else {
-        let _ = eprint!(rt; "{error}");
+        complain_whole(rt, error);
         REFUSED
     }
 }
@@ -196,7 +210,7 @@ fn run(rt: &HostRuntime) -> io::Result<u8> {
 
 /// Tells why nothing is done, and answers the status.
 fn refused(rt: &HostRuntime, error: &io::Error) -> u8 {
-    let _ = eprintln!(rt; "nlkeep: {error}");
+    complain(rt, error);
     REFUSED
 }
 
@@ -204,7 +218,7 @@ fn main(rt: HostRuntime) -> ExitCode {
     let stand_ins = match StandIns::take(&rt) {
         Ok(stand_ins) => stand_ins,
         Err(error) => {
-            let _ = eprintln!(rt; "nlkeep: /dev/null: cannot be opened: {error}");
+            complain(&rt, format_args!("/dev/null: cannot be opened: {error}"));
             return ExitCode::from(REFUSED);
         }
     };

@@ -1,10 +1,10 @@
 //! Folders that have a manifest which is none, as damage leaves it.
-use crate::printing::Printer;
+use crate::printing::{Printer, errors};
 use nl_folders::{Name, Path, begins_with, find_in};
 use nl_manifests::{Attributes, HostEntry, HostObject, HostTree, Time};
 use nl_types::Items;
 use std::alloc::{AllocError, Global};
-use std::io::{self, IsTerminal, Write};
+use std::io::{self, Write};
 
 /// The name that a manifest has.
 const MANIFEST: &[u8] = b".nlkeep";
@@ -60,10 +60,7 @@ pub fn tell_bad_manifests(
     top: &[Name],
     checkpoint: Option<u64>,
 ) -> bool {
-    let mut printer = Printer {
-        out: rt.stderr(),
-        is_terminal: rt.stderr().is_terminal(),
-    };
+    let mut printer = errors(rt);
     let is_folder = is_folder(shown, top);
     let mut are_good = true;
     for (path, _) in shown {

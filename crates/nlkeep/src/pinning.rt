@@ -6,7 +6,7 @@ use crate::images::{read_image, take_place};
 use crate::printing::Printer;
 use crate::storing::{Keeping, Stores, Wanted, store_in, tell_growth};
 use crate::telling::{News, done_as};
-use crate::views::View;
+use crate::views::{Made, View};
 use clap::ArgMatches;
 use nl_folders::Tree;
 use nl_pins::{Pins, with_pins};
@@ -128,7 +128,7 @@ impl Pinning {
         image: &[u8],
     ) -> Result<Pinning, Fault> {
         let view = View::of(rt, keeping.path, image, clock)?;
-        view.tell_earlier(rt, clock, keeping.moment)?;
+        view.tell_earlier(rt, clock, keeping.moment, Made::Checkpoint)?;
         let word = word(matches, "CNO");
         Pinning::in_view(rt.alloc(), &view, word, clock, change, keeping.moment)
     }

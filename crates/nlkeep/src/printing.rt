@@ -1,19 +1,29 @@
 //! What goes to standard output and error.
+use crate::complaining::complain;
 use crate::parts::path_said;
 use nl_folders::{Name, Path, begins_with};
 use nl_host::{LeftOut, Reason};
 use nl_manifests::{Attributes, HostDifference, HostEntry, HostObject, LineFault};
 use std::alloc::{AllocError, Global};
 use std::fmt::Display;
-use std::io::{self, IsTerminal, Write};
+use std::io::{self, Stderr, Write};
 use std::str;
 
 /// Standard output, or error.
 #[derive(Drop)]
 pub struct Printer<W: Write> {
     pub out: W,
-    /// Whether a person reads it at a terminal, where control characters of names would do harm.
+    /// Whether a person reads it at a terminal, where control characters of names would do harm. Standard
+    /// error is taken for one.
     pub is_terminal: bool,
+}
+
+/// What writes to standard error. A person reads it sooner or later, so names are escaped there always.
+pub fn errors(rt: &HostRuntime) -> Printer<Stderr> {
+    Printer {
+        out: rt.stderr(),
+        is_terminal: true,
+    }
 }
 
 impl<W: Write> Printer<W> {
@@ -267,10 +277,7 @@ fn is_to(seen: &Seen<'_>, target: &[u8]) -> bool {
 
 /// Tells what is left out, a line each, on standard error.
 pub fn tell_left_out(rt: &HostRuntime, all: &[LeftOut]) {
-    let mut printer = Printer {
-        out: rt.stderr(),
-        is_terminal: rt.stderr().is_terminal(),
-    };
+    let mut printer = errors(rt);
     for left in all {
         if printer.left_out(left).is_err() {
             return;
@@ -316,10 +323,7 @@ impl<W: Write> Printer<W> {
 /// Tells the lines of manifests at and below a path that show nothing, on standard error. Answers whether
 /// there are none.
 pub fn tell_refused(rt: &HostRuntime, all: &[(Path, LineFault)], top: &[Name]) -> bool {
-    let mut printer = Printer {
-        out: rt.stderr(),
-        is_terminal: rt.stderr().is_terminal(),
-    };
+    let mut printer = errors(rt);
     let mut is_whole = true;
     for (path, why) in all {
         if begins_with(path.as_slice(), top) {
@@ -350,10 +354,7 @@ impl<W: Write> Printer<W> {
 
 /// Tells what is left out of an archive, a line each, on standard error.
 pub fn tell_paths_left_out<R: Display>(rt: &HostRuntime, all: &[(Path, R)]) {
-    let mut printer = Printer {
-        out: rt.stderr(),
-        is_terminal: rt.stderr().is_terminal(),
-    };
+    let mut printer = errors(rt);
     for (path, reason) in all {
         if printer.path_left_out(path.as_slice(), reason).is_err() {
             return;
@@ -363,7 +364,7 @@ pub fn tell_paths_left_out<R: Display>(rt: &HostRuntime, all: &[(Path, R)]) {
 
 /// Tells that the file of pins is none.
 pub fn tell_no_pins(rt: &HostRuntime) {
-    let _ = eprintln!(rt; "nlkeep: left out: /.nlkeep-pins: a file of pins that is none");
+    complain(rt, "left out: /.nlkeep-pins: a file of pins that is none");
 }
 
 /// The last line of a text, which is all that a person is told who wants no more.

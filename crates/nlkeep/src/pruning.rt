@@ -6,7 +6,7 @@ use crate::images::{device_for, open_image, read_image, take_place};
 use crate::moments::{periods, shown};
 use crate::printing::Printer;
 use crate::telling::{News, done_to};
-use crate::views::View;
+use crate::views::{Made, View};
 use clap::ArgMatches;
 use jiff::tz::TimeZone;
 use nl_keep_pen::{Round, forget_image};
@@ -200,8 +200,19 @@ impl<'a> Asked<'a> {
         })
     }
 
-    fn pruning(&self, rt: &HostRuntime, image: &[u8], clock: &Clock<'_>) -> Result<Pruning, Fault> {
+    /// What is to be pruned of an image. A late date is told; where it is done, so is one later than its
+    /// moment.
+    fn pruning(
+        &self,
+        rt: &HostRuntime,
+        image: &[u8],
+        clock: &Clock<'_>,
+        is_done: bool,
+    ) -> Result<Pruning, Fault> {
         let view = View::of(rt, self.path, image, clock)?;
+        if is_done {
+            view.tell_earlier(rt, clock, self.moment, Made::Minor)?;
+        }
         let going = unkept(rt.alloc(), &self.rules, &view, &clock.zone)?;
         let rows = view.rows;
         Ok(Pruning { rows, going })
@@ -246,7 +257,7 @@ impl<'a> Asked<'a> {
     ) -> Result<Outcome, Fault> {
         let image = read_image(rt, self.path)?;
         let image = image.as_slice();
-        let pruning = self.pruning(rt, image, clock)?;
+        let pruning = self.pruning(rt, image, clock, false)?;
         self.rehearse_on(rt.alloc(), image, &pruning, &clock.zone, printer)?;
         Ok(Outcome::Done)
     }
@@ -301,7 +312,7 @@ impl<'a> Asked<'a> {
     ) -> Result<Outcome, Fault> {
         let image = read_image(rt, self.path)?;
         let image = image.as_slice();
-        let pruning = self.pruning(rt, image, clock)?;
+        let pruning = self.pruning(rt, image, clock, true)?;
         self.prune_image(rt, image, &pruning, &clock.zone, place, printer)
     }
 }

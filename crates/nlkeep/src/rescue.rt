@@ -1,10 +1,11 @@
 //! `rescue`: what can be read of a damaged image, checkpoint by checkpoint.
 use crate::asking::{Outcome, word};
+use crate::complaining::complain;
 use crate::faults::{Fault, fault_at, system_fault, volume_fault};
 use crate::image_files::{Purpose, read_for};
 use crate::images::pen_of;
 use crate::manifests::tell_bad_manifests;
-use crate::printing::{Printer, tell_paths_left_out, tell_refused};
+use crate::printing::{Printer, errors, tell_paths_left_out, tell_refused};
 use crate::restore::{Put, make_new, put_told};
 use crate::sums::{Summed, beside_sum, sum_path};
 use clap::ArgMatches;
@@ -18,7 +19,7 @@ use nl_pins::{is_of_pins, without_pins};
 use nl_types::{CheckpointNumber, Geometry, Items, VolError};
 use std::alloc::{AllocError, Global};
 use std::fs;
-use std::io::{self, IsTerminal, Write};
+use std::io::{self, Write};
 
 /// A path of a checkpoint, below the folder of all of them.
 fn below_number(
@@ -75,10 +76,7 @@ impl<W: Write> Printer<W> {
 
 /// Tells what was read and isn't to be trusted, a line each, on standard error.
 fn tell_doubts(rt: &HostRuntime, all: &[(Path, Doubt)]) {
-    let mut printer = Printer {
-        out: rt.stderr(),
-        is_terminal: rt.stderr().is_terminal(),
-    };
+    let mut printer = errors(rt);
     for (path, doubt) in all {
         let _ = printer.doubtful(path, *doubt);
     }
@@ -167,7 +165,10 @@ impl Rescuing<'_> {
             is_private: !are_good || !rescued.is_whole,
         };
         if let Err(error) = make_new(self.rt, folder.as_str(), tree, manner) {
-            let _ = eprintln!(self.rt; "nlkeep: left out: {folder}: cannot be made: {error}");
+            complain(
+                self.rt,
+                format_args!("left out: {folder}: cannot be made: {error}"),
+            );
             return Ok(Put::Partly);
         }
         let put = put_told(self.rt, folder.as_str(), tree, manner);
@@ -188,12 +189,16 @@ impl Rescuing<'_> {
     ) -> Result<Put, Fault> {
         let put = self.lay_out(number, rescued)?;
         let (number, paths) = (number.get(), rescued.opened.tree.len());
-        let ending = if rescued.is_whole {
+        let ending = if paths == 1 { "" } else { "s" };
+        let rest = if rescued.is_whole {
             ""
         } else {
             ", and not all"
         };
-        writeln!(printer.out, "checkpoint {number}: {paths} paths{ending}")?;
+        writeln!(
+            printer.out,
+            "checkpoint {number}: {paths} path{ending}{rest}"
+        )?;
         Ok(match put {
             Put::Whole if rescued.is_whole && rescued.is_trusted => Put::Whole,
             Put::Whole => Put::Partly,
@@ -212,7 +217,7 @@ impl Rescuing<'_> {
             Ok(Some(rescued)) => self.put(entry.number, &rescued, printer),
             Ok(None) => {
                 let number = entry.number.get();
-                let _ = eprintln!(self.rt; "nlkeep: left out: /{number}: cannot be read");
+                complain(self.rt, format_args!("left out: /{number}: cannot be read"));
                 Ok(Put::Partly)
             }
             Err(error) => Err(volume_fault(self.rt.alloc(), image, error)),
@@ -230,8 +235,9 @@ impl Rescuing<'_> {
         match sections.checkpoint(place) {
             Some(entry) => self.checkpoint(image, &entry, printer),
             None => {
-                let _ = eprintln!(self.rt;
-                    "nlkeep: left out: entry {place} of the checkpoints: cannot be read"
+                complain(
+                    self.rt,
+                    format_args!("left out: entry {place} of the checkpoints: cannot be read"),
                 );
                 Ok(Put::Partly)
             }
@@ -241,9 +247,10 @@ impl Rescuing<'_> {
     /// Tells how many checkpoints are left out behind the one at which the system took no more.
     fn tell_later(&self, count: usize) {
         if count > 0 {
-            let _ = eprintln!(self.rt;
-                "nlkeep: left out: {}: the last {count} checkpoints",
-                self.folder
+            let folder = self.folder;
+            complain(
+                self.rt,
+                format_args!("left out: {folder}: the last {count} checkpoints"),
             );
         }
     }
@@ -333,7 +340,10 @@ fn rescue_image<W: Write>(
     let is_whole = rescue_pages(rt, matches, &sections, &pages, doubts.as_ref(), printer)?;
     let missing = sections.places.end.saturating_sub(image.len());
     if missing > 0 {
-        let _ = eprintln!(rt; "nlkeep: left out: {path}: the last {missing} bytes are not there");
+        complain(
+            rt,
+            format_args!("left out: {path}: the last {missing} bytes are not there"),
+        );
     }
     Ok(Outcome::of(is_whole && missing == 0))
 }

@@ -3,14 +3,14 @@ use crate::asking::{Clock, Outcome, word};
 use crate::faults::{Fault, fault_at, system_fault};
 use crate::manifests::tell_bad_manifests;
 use crate::parts::{part_wanted, path_said};
-use crate::printing::{Printer, tell_left_out, tell_refused_below};
+use crate::printing::{Printer, errors, tell_left_out, tell_refused_below};
 use crate::views::View;
 use clap::ArgMatches;
 use nl_folders::Path;
 use nl_host::{Laid, Manner, Refused, lay_out};
 use nl_manifests::{HostEntry, Opened};
 use std::fs::{self, DirBuilder};
-use std::io::{self, ErrorKind, IsTerminal, Write};
+use std::io::{self, ErrorKind, Write};
 use std::os::unix::fs::DirBuilderExt;
 
 /// Whether nothing is in a folder.
@@ -100,10 +100,7 @@ fn tell_refusals(
     due: usize,
     ended: Option<&io::Error>,
 ) {
-    let mut printer = Printer {
-        out: rt.stderr(),
-        is_terminal: rt.stderr().is_terminal(),
-    };
+    let mut printer = errors(rt);
     for refused in laid.refused.as_slice() {
         let _ = printer.refused_path(refused);
     }

@@ -56,15 +56,14 @@ fn system_devices(rt: &HostRuntime) -> Result<Vec<u64>, AllocError> {
     Ok(devices)
 }
 
-fn too_big_text(alloc: Global, files: &[TooBig]) -> Result<String, AllocError> {
-    let begin = "no volume takes files above 64M; leave them out by --exclude:";
-    let mut text = String::from_str(alloc, begin)?;
+fn too_big_fault(alloc: Global, files: &[TooBig]) -> Result<Fault, AllocError> {
+    let what = "no volume takes files above 64M; leave them out by --exclude:";
+    let mut lines = Vec::with_capacity(alloc, files.len())?;
     for file in files {
-        let (path, size) = (crate::faults::Escaped(file.path.as_str()), file.size);
-        let line = format!(in alloc; "\n  {path} ({size} bytes)")?;
-        text.push_str(line.as_str())?;
+        let (path, size) = (file.path.as_str(), file.size);
+        lines.push(format!(in alloc; "{path} ({size} bytes)")?)?;
     }
-    Ok(text)
+    Ok(Fault::Listed(String::from_str(alloc, what)?, lines))
 }
 
 fn too_many_text(alloc: Global, folder: &str, bytes: u64) -> Result<String, AllocError> {
@@ -140,7 +139,7 @@ fn judge_files(
     host: &HostFolder<'_, HostRuntime>,
 ) -> Result<(), Fault> {
     if !host.too_big.is_empty() {
-        return Err(told(too_big_text(alloc, host.too_big.as_slice())));
+        return Err(too_big_fault(alloc, host.too_big.as_slice())?);
     }
     if host.bytes > MOST_BYTES {
         return Err(told(too_many_text(alloc, folder, host.bytes)));

@@ -8,7 +8,7 @@ use crate::printing::{Printer, last_line};
 use crate::progress::Progress;
 use crate::sizes::Size;
 use crate::telling::{News, done_as};
-use crate::views::View;
+use crate::views::{Made, View};
 use clap::ArgMatches;
 use nl_folders::{Path, Tree};
 use nl_keep::{KeepError, Stored};
@@ -209,7 +209,7 @@ impl<'a> Keeping<'a> {
     ) -> Result<Wanted, Fault> {
         let alloc = rt.alloc();
         let view = View::of(rt, self.path, image, clock)?;
-        view.tell_earlier(rt, clock, self.moment)?;
+        view.tell_earlier(rt, clock, self.moment, Made::Checkpoint)?;
         let pins = view.pins_file(alloc)?;
         Ok(self.wanted(with_pins(alloc, pins, tree)?))
     }

@@ -1,5 +1,6 @@
 //! The sum of an image, in a file beside it.
 use crate::asking::Outcome;
+use crate::complaining::complain;
 use crate::faults::{Fault, system_fault};
 use crate::image_files::irregular;
 use crate::lasting::{Lasting, before_save};
@@ -113,13 +114,17 @@ impl PlannedSum {
     /// Puts it beside the image. Answers whether it is left out, which is told.
     fn put(&self, rt: &HostRuntime, text: &[u8]) -> Outcome {
         let (path, image) = (self.path.as_str(), self.image.as_str());
-        let _ = match save_marked(rt, path, MARK, image, text) {
+        match save_marked(rt, path, MARK, image, text) {
             Ok(true) => return Outcome::Done,
-            Ok(false) => eprintln!(rt;
-                "nlkeep: left out: {path}: what stands there is no sum, and stays"
+            Ok(false) => complain(
+                rt,
+                format_args!("left out: {path}: what stands there is no sum, and stays"),
             ),
-            Err(error) => eprintln!(rt; "nlkeep: left out: {path}: cannot be written: {error}"),
-        };
+            Err(error) => complain(
+                rt,
+                format_args!("left out: {path}: cannot be written: {error}"),
+            ),
+        }
         Outcome::Partly
     }
 

@@ -2,7 +2,8 @@
 use crate::amounts::size_at;
 use crate::asking::Clock;
 use crate::checkpoints::{meant, rows};
-use crate::faults::{Escaped, Fault, fault_at, told, tree_fault, volume_fault};
+use crate::complaining::complain;
+use crate::faults::{Fault, fault_at, told, tree_fault, volume_fault};
 use crate::images::{open_image, read_image};
 use crate::moments::shown;
 use crate::parts::path_said;
@@ -25,6 +26,24 @@ pub struct View<'a> {
     volume: Box<PenVolume<MemDevice>>,
     /// What is told of its checkpoints, of the minor ones too.
     pub rows: Items<Row>,
+}
+
+/// What a command makes at the moment that is asked for.
+#[derive(Clone, Copy)]
+pub enum Made {
+    /// The next checkpoint.
+    Checkpoint,
+    /// A minor one, where a round of cleaning moves blocks.
+    Minor,
+}
+
+impl Made {
+    fn text(self) -> &'static str {
+        match self {
+            Made::Checkpoint => "this one",
+            Made::Minor => "one that cleaning makes",
+        }
+    }
 }
 
 /// The stamp of the latest of the checkpoints.
@@ -66,28 +85,35 @@ impl<'a> View<'a> {
         let latest = latest_stamp(self.rows.as_slice());
         if latest > clock.now {
             let date = shown(rt.alloc(), &clock.zone, latest)?;
-            let _ = eprintln!(rt;
-                "nlkeep: {}: the latest checkpoint is of {date}, which the clock has not reached",
-                Escaped(self.path)
+            let path = self.path;
+            complain(
+                rt,
+                format_args!(
+                    "{path}: the latest checkpoint is of {date}, which the clock has not reached"
+                ),
             );
         }
         Ok(())
     }
 
-    /// Tells a person that the latest checkpoint is later than the moment that is asked for, where it is: the
-    /// next one has its date. Where the clock has not reached that either, it is told as such.
+    /// Tells a person that the latest checkpoint is later than the moment that is asked for, where it is: what
+    /// is made has its date. Where the clock has not reached that either, it is told as such.
     pub fn tell_earlier(
         &self,
         rt: &HostRuntime,
         clock: &Clock<'_>,
         moment: u64,
+        made: Made,
     ) -> Result<(), Fault> {
         let latest = latest_stamp(self.rows.as_slice());
         if moment < latest && latest <= clock.now {
             let date = shown(rt.alloc(), &clock.zone, latest)?;
-            let _ = eprintln!(rt;
-                "nlkeep: {}: the latest checkpoint is of {date}, later than --at, so this one is too",
-                Escaped(self.path)
+            let (path, what) = (self.path, made.text());
+            complain(
+                rt,
+                format_args!(
+                    "{path}: the latest checkpoint is of {date}, later than --at, so {what} is too"
+                ),
             );
         }
         Ok(())
@@ -256,10 +282,7 @@ fn no_file_fault(alloc: Global, word: &str, entry: Option<&HostEntry>) -> Fault 
 
 fn link_fault(alloc: Global, word: &str, target: &[u8]) -> Fault {
     match String::from_utf8_lossy(alloc, target) {
-        Ok(target) => {
-            let (word, target) = (Escaped(word), Escaped(target.as_str()));
-            told(format!(in alloc; "{word}: is a link to {target}"))
-        }
+        Ok(target) => { told(format!(in alloc; "{word}: is a link to {target}")) }
         Err(_) => Fault::Memory,
     }
 }
