@@ -4,6 +4,7 @@ use crate::sizes::{MOST, SEGMENT_BYTES, segments_said};
 use clap::ArgMatches;
 use jiff::tz::TimeZone;
 use nl_types::decimal;
+use std::alloc::Global;
 
 /// The clock and the zone of the system.
 #[derive(Clone, Copy)]
@@ -51,6 +52,20 @@ impl Outcome {
 /// A word, empty where none is given.
 pub fn word<'a>(matches: &ArgMatches<'a>, id: &str) -> &'a str {
     matches.get_str(id).unwrap_or("")
+}
+
+/// The words that say a path of a volume.
+const PATHS: [&str; 2] = ["PATH", "path"];
+
+/// Sees to it that no path of a volume is an empty word, as a variable of a shell is that isn't set: it would mean
+/// the root, and so all that there is.
+pub fn judge_paths(alloc: Global, matches: &ArgMatches<'_>) -> Result<(), Fault> {
+    for id in &PATHS {
+        if matches.get_str(*id).is_some_and(str::is_empty) {
+            return Err(fault_at(alloc, "PATH", "is empty; / is the root"));
+        }
+    }
+    Ok(())
 }
 
 /// The moment of a change: the one that was given, or the clock's.

@@ -72,10 +72,11 @@ fn rehearse<W: Write>(
     clock: &Clock<'_>,
     printer: &mut Printer<W>,
 ) -> Result<Outcome, Fault> {
+    let keeping = Keeping::said(rt, matches, clock)?;
     let mut progress = Progress::begin(rt, matches);
     let Gathered { tree, is_whole } = gathered(rt, matches, &mut progress)?;
-    let present = present_tree(rt, word(matches, "IMAGE"), clock)?;
-    if matches.get_flag("quiet") {
+    let present = present_tree(rt, keeping.path, clock)?;
+    if keeping.is_quiet {
         tell_count(rt.alloc(), present.as_slice(), tree.as_slice(), printer)?;
     } else {
         tell_differences(rt.alloc(), present.as_slice(), tree.as_slice(), printer)?;

@@ -113,6 +113,16 @@ fn with_length(place: Place, length: Option<u64>) -> Place {
     }
 }
 
+/// The first byte of a segment of an image and the one behind its last. None where that isn't divided.
+fn place_in(image: &[u8], segment: u64) -> Option<(u64, u64)> {
+    let sections = Sections::of(image)?;
+    let size = BLOCK_SIZE as u64 * u64::from(sections.geometry.blocks);
+    let begin = segment
+        .checked_mul(size)?
+        .checked_add(sections.places.blocks as u64)?;
+    Some((begin, begin.checked_add(size)?))
+}
+
 /// An image that is told of.
 #[derive(Clone, Copy)]
 pub struct Told<'a> {
@@ -166,12 +176,7 @@ impl Told<'_> {
 
     /// The first byte of a segment and the one behind its last. None where the image isn't divided.
     pub fn place(&self, segment: u64) -> Option<(u64, u64)> {
-        let sections = Sections::of(self.image)?;
-        let size = BLOCK_SIZE as u64 * u64::from(sections.geometry.blocks);
-        let begin = segment
-            .checked_mul(size)?
-            .checked_add(sections.places.blocks as u64)?;
-        Some((begin, begin.checked_add(size)?))
+        place_in(self.image, segment)
     }
 
     /// Tells which segments differ from the sum, a line each.
@@ -309,14 +314,32 @@ impl Told<'_> {
     }
 }
 
-/// Tells a sum that can't be read: what is sound is then so but for it.
-fn with_sum_told(rt: &HostRuntime, told: &Told<'_>, outcome: Outcome) -> Outcome {
-    if !matches!(told.summed, Summed::Unread) {
-        return outcome;
+/// Tells a sum at a path that can't be read.
+fn tell_unread(rt: &HostRuntime, path: &str, summed: &Summed) -> Outcome {
+    if !matches!(summed, Summed::Unread) {
+        return Outcome::Done;
     }
-    let why = irregular(rt, told.sum_path).unwrap_or("cannot be read");
-    complain(rt, format_args!("left out: {}: {why}", told.sum_path));
-    outcome.and(Outcome::Partly)
+    let why = irregular(rt, path).unwrap_or("cannot be read");
+    complain(rt, format_args!("left out: {path}: {why}"));
+    Outcome::Partly
+}
+
+/// Tells each segment that differs from the sum of an image which is copied as it is.
+pub fn tell_damage(rt: &HostRuntime, path: &str, image: &[u8]) -> Result<Outcome, Fault> {
+    let sum = sum_path(rt, path)?;
+    let summed = beside_sum(rt, sum.as_str(), image)?;
+    for segment in differing(&summed) {
+        let (begin, end) = place_in(image, *segment).unwrap_or((0, 0));
+        let last = end.saturating_sub(1);
+        complain(
+            rt,
+            format_args!(
+                "damaged, and copied as it is: segment {segment} differs from {sum}: bytes {begin} to {last}"
+            ),
+        );
+    }
+    let is_sound = differing(&summed).is_empty();
+    Ok(tell_unread(rt, sum.as_str(), &summed).and(Outcome::of(is_sound)))
 }
 
 /// The first condition that the image at a path fails.
@@ -366,5 +389,8 @@ pub fn check<W: Write>(
         judged: judged_of(alloc, image.as_slice(), failing, is_all)?,
     };
     told.tell_by(alloc, matches.get_flag("json"), printer)?;
-    Ok(with_sum_told(rt, &told, told.outcome()))
+    Ok(
+        told.outcome()
+            .and(tell_unread(rt, told.sum_path, told.summed)),
+    )
 }

@@ -96,6 +96,13 @@ struct Compared {
     all: Items<(Path, HostDifference)>,
 }
 
+impl Compared {
+    /// Whether one of the two shows something at a path.
+    fn has(&self, path: &[Name]) -> bool {
+        find_in(self.old.as_slice(), path).is_some() || find_in(self.new.as_slice(), path).is_some()
+    }
+}
+
 /// Two kept checkpoints of a volume that are compared.
 #[derive(Clone, Copy)]
 pub struct Comparing<'a> {
@@ -181,16 +188,20 @@ impl Comparing<'_> {
         self.tell_all(alloc, &compared, printer)
     }
 
-    /// The same, and tells which manifests are none. Answers whether there are none, too.
+    /// The same, and tells which manifests are none. Answers whether there are none, too; or nothing where
+    /// neither checkpoint shows anything at the path.
     pub fn tell_judged<W: Write>(
         &self,
         rt: &HostRuntime,
         printer: &mut Printer<W>,
-    ) -> Result<(usize, bool), Fault> {
+    ) -> Result<Option<(usize, bool)>, Fault> {
         let alloc = rt.alloc();
         let compared = self.compared(alloc)?;
+        if !compared.has(self.top) {
+            return Ok(None);
+        }
         let are_good = self.tell_bad(rt, &compared);
         let count = self.tell_all(alloc, &compared, printer)?;
-        Ok((count, are_good))
+        Ok(Some((count, are_good)))
     }
 }

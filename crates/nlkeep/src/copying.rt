@@ -1,5 +1,6 @@
 //! `copy`: later checkpoints of one image come into another one, which may lie on a second disk.
 use crate::asking::{Clock, Outcome, most, word};
+use crate::checking::tell_damage;
 use crate::checkpoints::is_minor;
 use crate::complaining::complain;
 use crate::faults::{Fault, system_fault, told, volume_fault};
@@ -463,7 +464,8 @@ fn judge_paths(rt: &HostRuntime, path: &str, other: &str) -> Result<(), Fault> {
 
 /// Brings each checkpoint of an image into another one that isn't earlier than the latest of that, and that
 /// it lacks, the oldest first, with its tree, its date and its mode, and saves that image. Minor ones are
-/// passed over. Where nothing stands in the place of the other image, it is made.
+/// passed over. Where nothing stands in the place of the other image, it is made. Bytes that differ from the sum of
+/// the image are copied as they are, and told.
 pub fn copy<W: Write>(
     rt: &HostRuntime,
     matches: &ArgMatches<'_>,
@@ -472,7 +474,11 @@ pub fn copy<W: Write>(
 ) -> Result<Outcome, Fault> {
     let (path, other) = (word(matches, "IMAGE"), word(matches, "IMAGE2"));
     judge_paths(rt, path, other)?;
-    let view = View::at(rt, path)?;
+    let image = read_image(rt, path)?;
+    let view = View::silent(rt.alloc(), path, image.as_slice())?;
     let mut place = take_place(rt, other)?;
-    copy_in(rt, matches, clock, &view, &mut place, printer)
+    let damage = tell_damage(rt, path, image.as_slice())?;
+    drop(image);
+    let copied = copy_in(rt, matches, clock, &view, &mut place, printer)?;
+    Ok(copied.and(damage))
 }

@@ -83,7 +83,7 @@ fn full_text(alloc: Global, path: &str, image: &[u8], wanted: &Wanted) -> Result
     let (size, help) = (Size(size), help_for(size));
     Ok(format!(in alloc;
         "{path}: is full: {written} bytes are new in blocks of files, and a volume of {size} has at most \
-         {left} beside what its checkpoints need. Room comes by {help}"
+         {left} beside what its checkpoints need, for these, folders, inodes and summaries. Room comes by {help}"
     )?)
 }
 

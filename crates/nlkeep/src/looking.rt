@@ -256,7 +256,9 @@ fn diff<W: Write>(
         top: top.as_slice(),
         is_json: matches.get_flag("json"),
     };
-    let (count, are_good) = comparing.tell_judged(rt, printer)?;
+    let Some((count, are_good)) = comparing.tell_judged(rt, printer)? else {
+        return Err(nothing_there(alloc, matches));
+    };
     Ok(if count == 0 {
         Outcome::of(are_good)
     } else {

@@ -49,7 +49,7 @@ mod unpacking;
 mod verdicts;
 mod views;
 
-use asking::{Clock, Outcome};
+use asking::{Clock, Outcome, judge_paths};
 use clap::ArgMatches;
 use complaining::{complain, complain_more, complain_whole};
 use faults::{Fault, REFUSED};
@@ -147,6 +147,7 @@ fn run_command(rt: &HostRuntime, matches: &ArgMatches<'_>) -> Result<u8, Fault> 
     let Some((name, matches)) = matches.subcommand() else {
         return Ok(REFUSED);
     };
+    judge_paths(rt.alloc(), matches)?;
     let zones = Zones::read(rt);
     run_in_zone(rt, name, matches, zones.zone())
 }

@@ -13,6 +13,9 @@ const FORM: &str = "%Y-%m-%d %H:%M:%S";
 /// The same with how far its zone is from UTC then.
 const ZONE_FORM: &str = "%Y-%m-%d %H:%M:%S%:z";
 
+/// How many bytes a day has, as `2026-11-26`.
+const DAY_BYTES: usize = 10;
+
 /// What the system says of time zones. The zone itself borrows from it.
 #[derive(Drop)]
 pub struct Zones {
@@ -164,28 +167,36 @@ fn second_of_time(word: &str, zone: &TimeZone<'_>) -> Result<i64, Error> {
     Ok(at.to_zoned(*zone)?.timestamp().as_second())
 }
 
-fn second_said(word: &str, now: u64, zone: &TimeZone<'_>) -> Result<i64, Error> {
-    match word {
-        "now" => return Ok(second_of(now)),
-        "today" => return today(now, zone),
-        "yesterday" => return yesterday(now, zone),
-        _ => {}
-    }
-    if word.contains('T') {
-        return second_of_time(word, zone);
-    }
+/// Whether a word has a time beside its day.
+fn has_time(word: &str) -> bool {
+    word.contains('T') || word.contains('t') || word.contains(':')
+}
+
+/// The last second of a day. The library would pass over a time behind it.
+fn second_of_day(word: &str, zone: &TimeZone<'_>) -> Result<i64, Error> {
     let day: Date = word.parse()?;
     last_second_of(day, zone)
 }
 
-/// The moment that a date says: `2026-11-26T18:00` in the zone; the same with `Z` behind it, or with an
-/// offset as `+01:00`; the last second of `2026-11-26`, `today` or `yesterday` in the zone; or `now`. None
-/// where it is no date, or one before 1970.
+fn second_said(word: &str, now: u64, zone: &TimeZone<'_>) -> Option<i64> {
+    match word {
+        "now" => Some(second_of(now)),
+        "today" => today(now, zone).ok(),
+        "yesterday" => yesterday(now, zone).ok(),
+        _ if has_time(word) => second_of_time(word, zone).ok(),
+        _ if word.len() == DAY_BYTES => second_of_day(word, zone).ok(),
+        _ => None,
+    }
+}
+
+/// The moment that a date says: `2026-11-26T18:00` in the zone, with a blank or a `T` before the time; the same
+/// with `Z` behind it, or with an offset as `+01:00`; the last second of `2026-11-26`, `today` or `yesterday` in
+/// the zone; or `now`. None where it is no date, or one before 1970.
 pub fn moment_said(word: &str, now: u64, zone: &TimeZone<'_>) -> Option<u64> {
     if word.contains('[') {
         // The name of a zone, which the library would pass over.
         return None;
     }
-    let second = second_said(word, now, zone).ok()?;
+    let second = second_said(word, now, zone)?;
     u64::try_from(second).ok()
 }
