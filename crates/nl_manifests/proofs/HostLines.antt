@@ -1,5 +1,5 @@
 -- The lines of what stands in a directory of the host.
-use Rattle.std.proofs.Common.{◌≡◌, ◌<◌, Bool, true, false, cond, ◌&&◌, List, [], ◌∷◌, ◌++◌, Option, Some, None, refl, sym, ap, ◌∙◌, subst, true≢false, length, arith}
+use Rattle.std.proofs.Common.{◌≡◌, Bool, true, false, cond, ◌&&◌, List, [], ◌∷◌, ◌++◌, Option, Some, None, refl, sym, ap, ◌∙◌, subst, true≢false, length, drop}
 use Rattle.std.specs.declared.cmp.Ordering.{Ordering}
 use Rattle.std.specs.declared.cmp.Ordering.TheVariants.{Less, Equal, Greater}
 use Rattle.std.specs.Ordering.{is_eq, is_lt, ordering_then, ordering_reverse}
@@ -23,7 +23,7 @@ use Rattle.nl_manifests.specs.declared.host_tree.HostEntry.{HostEntry}
 use Rattle.nl_manifests.specs.HostTrees.{HostTree, line_named}
 use Rattle.nl_manifests.specs.Manifests.{ascend}
 use Rattle.nl_manifests.specs.Sealed.{kind_of, line_under, line_with, lines_in}
-use Rattle.nl_manifests.specs.Private.Sealing.{lines_until}
+use Rattle.nl_manifests.specs.Private.Sealing.{lines_until, only_name}
 use Rattle.nl_manifests.proofs.Kept.{keyed, not_none}
 use Rattle.nl_manifests.proofs.Sorted.{absent, less_is}
 
@@ -49,13 +49,16 @@ below_is (m ∷ dir) (k ∷ path) n is =
       | false ↦ λ _ here. cc
     ] refl is
 
--- nothing is the root of a directory
-pub none_above : (dir path : Path) → 0 < length dir → length path ≡ 0 → name_below dir path ≡ None
-none_above [] path some none = absurd (omega arith)
-none_above (n ∷ dir) [] some none = refl
-none_above (n ∷ dir) (m ∷ path) some none = absurd (omega arith)
-
-pub ruleset ends = (none_above)
+-- of a path below a directory the rest tells it
+pub below_only : (dir path : Path) → is_within dir path ≡ true
+    → only_name (drop (length dir) path) ≡ name_below dir path
+below_only [] [] within = refl
+below_only [] (n ∷ []) within = refl
+below_only [] (n ∷ m ∷ path) within = refl
+below_only (n ∷ dir) [] within = absurd (true≢false (sym within))
+below_only (n ∷ dir) (m ∷ path) within =
+    let parts = and_parts (same_name n m) (is_within dir path) within in
+    below_only dir path parts.1 ∙ sym (ap (λ b. cond b (name_below dir path) None) parts.0)
 
 then_equal : (o : Ordering) → ordering_then o Equal ≡ o
 then_equal Less = refl
@@ -201,7 +204,7 @@ sorted_ascend (a ∷ b ∷ lines) sorted =
 -- ---- where the lines of a directory end
 
 -- what comes behind a directory and isn't in it comes behind all that is
-behind_all : (dir p rest : Path) → is_within dir p ≡ false → path_cmp dir p ≡ Less
+pub behind_all : (dir p rest : Path) → is_within dir p ≡ false → path_cmp dir p ≡ Less
     → path_cmp (dir ++ rest) p ≡ Less
 behind_all [] p rest apart less = absurd (true≢false apart)
 behind_all (n ∷ dir) [] rest apart less = cc
@@ -214,7 +217,7 @@ behind_all (n ∷ dir) (m ∷ p) rest apart less = by (behind_all dir p rest) (n
     by further Equal apart less = further apart less
     by further Greater apart less = less
 
-above_child : (dir : Path) (n : Name) → path_cmp dir (dir ++ n ∷ []) ≡ Less
+pub above_child : (dir : Path) (n : Name) → path_cmp dir (dir ++ n ∷ []) ≡ Less
 above_child [] n = refl
 above_child (m ∷ dir) n =
     ap (λ o. ordering_then o (path_cmp dir (dir ++ n ∷ []))) (tied_itself nat_list_cmp_total m)

@@ -14,6 +14,7 @@ pub mod HostLines
 pub mod SealedTrees
 pub mod SealedParts
 pub mod SealedLimits
+pub mod Depths
 pub mod Lookups
 pub mod HostDifferenceLaws
 pub mod UnreadTrees

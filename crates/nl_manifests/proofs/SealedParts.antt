@@ -32,13 +32,13 @@ use Rattle.nl_manifests.proofs.Shown.{Are, Are-append, ending_of, found_among, f
 abbrev part_in : HostTree → Path × HostEntry → Tree
 part_in shown e = sealed_part e.0 e.1.object (manifest_with (lines_in shown e.0) e.1.object e.1.attributes)
 
-sorted_from : (front es : HostTree) → is_sorted path_cmp (front ++ es) ≡ true → is_sorted path_cmp es ≡ true
+pub sorted_from : (front es : HostTree) → is_sorted path_cmp (front ++ es) ≡ true → is_sorted path_cmp es ≡ true
 sorted_from [] es sorted = sorted
 sorted_from (x ∷ front) es sorted =
     sorted_from front es (and_parts (below_all path_cmp x.0 (front ++ es)) (is_sorted path_cmp (front ++ es)) sorted).1
 
 -- what comes before an entry is below it
-before_entry : (front : HostTree) (e : Path × HostEntry) (es : HostTree)
+pub before_entry : (front : HostTree) (e : Path × HostEntry) (es : HostTree)
     → is_sorted path_cmp (front ++ e ∷ es) ≡ true → list_all (λ x. is_lt (path_cmp x.0 e.0)) front ≡ true
 before_entry [] e es sorted = refl
 before_entry (x ∷ front) e es sorted =

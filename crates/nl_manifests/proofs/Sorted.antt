@@ -15,7 +15,7 @@ less_is Less h = refl
 less_is Equal h = absurd (true≢false (sym h))
 less_is Greater h = absurd (true≢false (sym h))
 
-turned : (p q : Path) → path_cmp p q ≡ Less → path_cmp q p ≡ Greater
+pub turned : (p q : Path) → path_cmp p q ≡ Less → path_cmp q p ≡ Greater
 turned p q less = path_total.antisymm q p ∙ ap ordering_reverse less
 
 module _ {X : Type 0} where

@@ -6,7 +6,7 @@ ghost use Rattle.nl_types.specs.Plain.Trees.{IsTree};
 ghost use Rattle.nl_manifests.specs.HostTrees.{Shows, refused};
 ghost use Rattle.nl_manifests.specs.Sealed.{IsSealed, RefusesSealing, is_small, is_within_limits, line_under};
 ghost use Rattle.nl_manifests.specs.Private.Places.{Puts, PutsIfOrdered};
-ghost use Rattle.nl_manifests.specs.Private.Sealing.{lines_until, manifest_part, own_manifest, sealed_part, sealed_parts};
+ghost use Rattle.nl_manifests.specs.Private.Sealing.{EachEndsByLength, EndsByLength, lines_until, manifest_part, own_manifest, sealed_part, sealed_parts};
 
 use crate::host_tree::{HostEntry, HostObject};
 use crate::judging::is_host_tree;
@@ -14,7 +14,7 @@ use crate::manifest::{Line, LineKind, Manifest};
 use crate::names::name_below;
 use crate::ordered::put;
 use crate::printing::printed;
-use nl_folders::{Name, Path, Tree, begins_with, copied, with_name};
+use nl_folders::{Name, Path, Tree, copied, with_name};
 use nl_types::limits::{FILE_LIMIT, PATH_LIMIT};
 use nl_types::{Items, Object};
 use std::alloc::{AllocError, AllocFailed, Global};
@@ -74,18 +74,20 @@ fn add_line(
     })
 }
 
-/// The lines of a directory, by the entries that come behind it.
+/// The lines of a directory, by the entries that come behind it. Those below it have longer paths, up to the first
+/// entry that isn't below it: so a look at their lengths is enough, however deep the tree is.
 fn lines_until(
     alloc: Global,
     directory: &[Name],
     behind: &[(Path, HostEntry)],
 ) -> Result<Items<Line>, AllocError>
+    requires { EndsByLength directory.now behind.now }
     ensures { IfOk result (λ lines. lines ≡ lines_until directory.now behind.now) }
 {
     let mut lines = Items::new(alloc);
     for entry in behind {
         let path = entry.0.as_slice();
-        if !begins_with(path, directory) {
+        if path.len() <= directory.len() {
             return Ok(lines);
         }
         add_line(alloc, name_below(directory, path), &entry.1, &mut lines)?;
@@ -99,6 +101,7 @@ fn own_manifest(
     entry: &(Path, HostEntry),
     behind: &[(Path, HostEntry)],
 ) -> Result<Option<Manifest>, AllocError>
+    requires { EndsByLength entry.now.0 behind.now }
     ensures { IfOk result (λ manifest. manifest ≡ own_manifest entry.now behind.now) }
 {
     match (&entry.1.object, entry.1.attributes) {
@@ -160,6 +163,7 @@ fn put_entry(
 }
 
 fn put_all(alloc: Global, host: &[(Path, HostEntry)]) -> Result<Tree, AllocError>
+    requires { EachEndsByLength host.now }
     ensures { IfOk result (λ tree. Puts [] (sealed_parts host.now) tree) }
 {
     let mut sealed = Vec::new(alloc);

@@ -1,7 +1,7 @@
 -- How the tree that shows one of the host is put together.
-use Rattle.std.specs.Prelude.{if◌then◌else◌, List, [], ◌∷◌, ◌++◌, Option, None, Some}
+use Rattle.std.specs.Prelude.{◌≡◌, ◌<◌, ◌≤◌, true, false, if◌then◌else◌, List, [], ◌∷◌, ◌++◌, length, Option, None, Some}
 use Rattle.nl_types.specs.declared.reply.Object.TheVariants.{Dir, File}
-use Rattle.nl_types.specs.Plain.Paths.{Path, is_within}
+use Rattle.nl_types.specs.Plain.Paths.{Name, Path, is_within}
 use Rattle.nl_types.specs.Plain.Trees.{Tree, name_below}
 use Rattle.nl_manifests.specs.declared.manifest.Line.{Line}
 use Rattle.nl_manifests.specs.declared.manifest.Manifest.{Manifest}
@@ -17,6 +17,25 @@ abbrev pub lines_until : Path → HostTree → List Line
 lines_until dir [] = []
 lines_until dir (e ∷ tree) =
     if is_within dir e.0 then line_under (name_below dir e.0) e.1 ++ lines_until dir tree else []
+
+-- By their lengths alone it is seen where the paths end that are below a directory: these are longer than its own,
+-- and the first one behind them isn't.
+abbrev pub EndsByLength : Path → HostTree → Type 0
+EndsByLength dir [] = Unit {0}
+EndsByLength dir (e ∷ tree) =
+    (length dir < length e.0 → (is_within dir e.0 ≡ true) × EndsByLength dir tree)
+    × (length e.0 ≤ length dir → is_within dir e.0 ≡ false)
+
+-- so it is behind each entry
+abbrev pub EachEndsByLength : HostTree → Type 0
+EachEndsByLength [] = Unit {0}
+EachEndsByLength (e ∷ tree) = EndsByLength e.0 tree × EachEndsByLength tree
+
+-- the name that is alone
+abbrev pub only_name : Path → Option Name
+only_name [] = None
+only_name (name ∷ []) = Some name
+only_name (n ∷ m ∷ path) = None
 
 abbrev pub manifest_part : Path → Option Manifest → Tree
 manifest_part path None = []

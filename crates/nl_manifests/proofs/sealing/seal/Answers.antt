@@ -1,9 +1,14 @@
 use Rattle.std.proofs.Common.{◌≡◌, ap, sym, ◌∙◌, true, false}
 use Rattle.nl_manifests.specs.Sealed.{is_host_tree, is_within_limits}
+use Rattle.nl_manifests.proofs.Depths.{each_ends_by_length}
 use Rattle.nl_manifests.proofs.SealedLimits.{is_tree}
 use Rattle.nl_manifests.proofs.SealedParts.{sealed_by}
 use Rattle.nl_manifests.proofs.SealedTrees.{none_is_refused, shows_it}
 use Rattle.nl_manifests.proofs.sealing.seal.Goals as goal
+
+pub put_all-requires : goal.put_all-requires
+put_all-requires c =
+    each_ends_by_length c.args.host.now (sym c.in_ok-is_shown.ensures ∙ c.if-not-is_shown.false)
 
 pub returns-then-is_within_limits-clause-tree : goal.returns-then-is_within_limits-clause-tree
 returns-then-is_within_limits-clause-tree c =
