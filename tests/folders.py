@@ -17,6 +17,18 @@ BLOCK = 1024
 NO_SIZE = "no size from 512K to 256M, in the form of 8M, 8192K or 8388608"
 
 
+# Before a program that is to run where there is no /proc.
+WITHOUT_PROC = ["unshare", "-m", "sh", "-c", 'umount -l /proc && ! test -e /proc/self && exec "$@"', "sh"]
+
+
+def without_proc():
+    """The words before a program that is to run where there is no /proc, or None where that isn't allowed."""
+    if os.geteuid() != 0 or not shutil.which("unshare"):
+        return None
+    tried = subprocess.run([*WITHOUT_PROC, "true"], stderr=subprocess.DEVNULL, check=False)
+    return WITHOUT_PROC if tried.returncode == 0 else None
+
+
 def due(seen, expected, what):
     if seen != expected:
         raise AssertionError(f"{what}: due {expected!r}, came {seen!r}")

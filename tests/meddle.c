@@ -2,6 +2,8 @@
    what, by the ends of paths:
    SWAPPED=NAME TARGET=PATH  as soon as a folder of this name is made, or a file of it has been written, that is
                              renamed to NAME.away, and a link to PATH stands in its place;
+   ENTERED=NAME TARGET=PATH  the same, just before a folder of this name becomes the working directory;
+   MADE=NAME COMMAND=TEXT    as soon as a file of this name is made, sh does this;
    FULL=NAME                 each write to a file of this name fails with ENOSPC;
    DENIED=NAME               each try to make a file or a folder of this name fails with EACCES. */
 #define _GNU_SOURCE
@@ -28,6 +30,19 @@ static void swap(const char *path) {
     if (rename(path, away) || symlink(getenv("TARGET"), path)) perror("meddle");
 }
 
+static void run(void) {
+    char *command = strdup(getenv("COMMAND"));
+    unsetenv("LD_PRELOAD"), unsetenv("MADE");
+    if (system(command)) abort();
+    free(command);
+}
+
+int chdir(const char *path) {
+    REAL(chdir);
+    if (is_of("ENTERED", path)) swap(path), unsetenv("ENTERED");
+    return real(path);
+}
+
 int mkdir(const char *path, mode_t mode) {
     REAL(mkdir);
     if (is_of("DENIED", path)) return errno = EACCES, -1;
@@ -43,7 +58,9 @@ int open(const char *path, int flags, ...) {
     mode_t mode = flags & O_CREAT ? va_arg(more, mode_t) : 0;
     va_end(more);
     if (flags & O_CREAT && is_of("DENIED", path)) return errno = EACCES, -1;
-    return real(path, flags, mode);
+    int file = real(path, flags, mode);
+    if (flags & O_CREAT && file >= 0 && is_of("MADE", path)) run();
+    return file;
 }
 
 ssize_t write(int file, const void *bytes, size_t count) {

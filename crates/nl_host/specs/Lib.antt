@@ -2,3 +2,4 @@ pub mod Patterns
 pub mod Selections
 pub mod HostPaths
 pub mod Identities
+pub mod Trails

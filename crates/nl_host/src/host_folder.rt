@@ -16,7 +16,7 @@ use std::fs::{DirEntry, File, Metadata, OpenFile};
 use std::io::{ErrorKind, Read};
 use std::os::unix::fs::MetadataExt;
 use std::path::PathBuf;
-use std::rt::Files;
+use std::rt::{Env, Files};
 use std::{fs, io};
 
 /// The most bytes that a volume has. Once the files of a folder have more, no more of them is read.
@@ -113,7 +113,7 @@ fn state_of(metadata: &Metadata) -> State {
     }
 }
 
-impl<'a, R: AllocGlobal + Files<File = File> + Clone + Drop> HostFolder<'a, R> {
+impl<'a, R: AllocGlobal + Files<File = File> + Env + Clone + Drop> HostFolder<'a, R> {
     /// The folder at a path, in which no link is to be followed any more.
     pub fn new(
         files: &'a R,
@@ -177,7 +177,7 @@ impl<'a, R: AllocGlobal + Files<File = File> + Clone + Drop> HostFolder<'a, R> {
 
 // ---- what is left out
 
-impl<R: AllocGlobal + Files<File = File> + Clone + Drop> HostFolder<'_, R> {
+impl<R: AllocGlobal + Files<File = File> + Env + Clone + Drop> HostFolder<'_, R> {
     fn leave_out(&mut self, path: String, reason: Reason) -> Result<(), FolderError> {
         self.left_out.push(LeftOut { path, reason })?;
         Ok(())
@@ -216,7 +216,7 @@ impl<R: AllocGlobal + Files<File = File> + Clone + Drop> HostFolder<'_, R> {
 
 // ---- what is done with what a folder has
 
-impl<R: AllocGlobal + Files<File = File> + Clone + Drop> HostFolder<'_, R> {
+impl<R: AllocGlobal + Files<File = File> + Env + Clone + Drop> HostFolder<'_, R> {
     /// A path without the root's in front, and without a slash there.
     fn below<'p>(&self, path: &'p str) -> &'p str {
         match path.strip_prefix(self.root) {
@@ -324,7 +324,7 @@ fn path_in(alloc: Global, folder: &str, name: &str) -> Result<String, AllocError
     Ok(path)
 }
 
-impl<R: AllocGlobal + Files<File = File> + Clone + Drop> HostFolder<'_, R> {
+impl<R: AllocGlobal + Files<File = File> + Env + Clone + Drop> HostFolder<'_, R> {
     fn add(
         &mut self,
         alloc: Global,
@@ -467,7 +467,7 @@ impl<R: AllocGlobal + Files<File = File> + Clone + Drop> HostFolder<'_, R> {
 
 // ---- files and links
 
-impl<R: AllocGlobal + Files<File = File> + Clone + Drop> HostFolder<'_, R> {
+impl<R: AllocGlobal + Files<File = File> + Env + Clone + Drop> HostFolder<'_, R> {
     /// What the file at a place has. None where it isn't the file that is meant.
     fn read_once(
         &self,

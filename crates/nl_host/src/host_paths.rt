@@ -1,6 +1,7 @@
 //! Paths of the host below a folder.
-ghost use Rattle.std.specs.Prelude.{◌≡◌, ◌≤◌, IfOk, IfSome, is_some, length, string_bytes};
+ghost use Rattle.std.specs.Prelude.{◌≡◌, ◌≤◌, ◌++◌, ◌∷◌, IfOk, IfSome, is_some, length, string_bytes};
 ghost use Rattle.std.specs.Str.{is_utf8};
+ghost use Rattle.nl_types.specs.Plain.Characters.{slash};
 ghost use Rattle.nl_host.specs.HostPaths.{host_names, host_path, is_host_name};
 
 use nl_folders::Name;
@@ -28,6 +29,16 @@ pub(crate) fn name_text(name: &[u8]) -> Option<&str>
         return None;
     }
     text_of(name)
+}
+
+/// The path of what has a name in the folder at a path.
+pub(crate) fn path_below(alloc: Global, folder: &str, name: &str) -> Result<String, AllocError>
+    ensures { IfOk result (λ path. string_bytes path ≡ folder.now ++ slash ∷ name.now) }
+{
+    let mut path = String::from_str(alloc, folder)?;
+    path.push('/')?;
+    path.push_str(name)?;
+    Ok(path)
 }
 
 /// The path of the host that has a folder's path in front, and then the names of a path up to the first one

@@ -14,7 +14,7 @@ use nl_manifests::{HostEntry, HostObject};
 use std::alloc::Global;
 use std::fs::File;
 use std::io;
-use std::rt::Files;
+use std::rt::{Env, Files};
 
 // ---- what no path of the host may have
 
@@ -159,7 +159,7 @@ fn note_links(
 // ---- all of it
 
 /// Makes what may stand on the host, and sets its attributes, also where that ends amid.
-fn put_all<R: AllocGlobal + Files<File = File>>(
+fn put_all<R: AllocGlobal + Files<File = File> + Env>(
     rt: &R,
     folder: &str,
     entries: &[(Path, HostEntry)],
@@ -171,8 +171,10 @@ fn put_all<R: AllocGlobal + Files<File = File>>(
     let mut putting = Putting::new(rt, root.as_str(), folder, manner)?;
     let put = putting.lay_all(entries, laid);
     let left = putting.leave_all(laid);
+    let closed = putting.close();
     put?;
-    left
+    left?;
+    closed
 }
 
 /// Lays a tree out in a folder that is there and empty, in the order of the paths. The tree's root is that folder.
@@ -183,9 +185,9 @@ fn put_all<R: AllocGlobal + Files<File = File>>(
 /// isn't, by its path. What the system refuses of one entry alone is noted too, by `laid`.
 ///
 /// # Errors
-/// Those by which the system would refuse each further file. What was laid out before stays, and has its
-/// attributes.
-pub fn lay_out<R: AllocGlobal + Files<File = File>>(
+/// Those by which the system would refuse each further file; and where relative paths would lead elsewhere now than
+/// before. What was laid out before stays, and has its attributes.
+pub fn lay_out<R: AllocGlobal + Files<File = File> + Env>(
     rt: &R,
     folder: &str,
     entries: &[(Path, HostEntry)],

@@ -2,6 +2,7 @@
 #![tactic(auto)]
 
 mod attributes;
+mod handles;
 mod host_folder;
 mod host_paths;
 mod identity;
@@ -13,6 +14,8 @@ mod putting;
 mod reading;
 mod refusals;
 mod selection;
+mod trail;
+mod working_directory;
 
 pub use host_folder::HostFolder;
 pub use identity::Identity;

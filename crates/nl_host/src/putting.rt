@@ -9,7 +9,7 @@ use nl_manifests::{Attributes, HostEntry, HostObject};
 use std::fs::{DirBuilder, File, OpenOptions};
 use std::io::Write;
 use std::os::unix::fs::{DirBuilderExt, OpenOptionsExt, symlink};
-use std::rt::Files;
+use std::rt::{Env, Files};
 use std::{fs, io};
 
 /// How a tree is laid out.
@@ -42,7 +42,7 @@ pub(crate) struct Putting<'a, 'e, R: Files> {
     levels: Vec<Level<'e>>,
 }
 
-impl<'a, 'e, R: AllocGlobal + Files<File = File>> Putting<'a, 'e, R> {
+impl<'a, 'e, R: AllocGlobal + Files<File = File> + Env> Putting<'a, 'e, R> {
     /// In the folder that the system finds at `root`, where no link is followed; `folder` is told.
     pub(crate) fn new(
         rt: &'a R,
@@ -142,6 +142,14 @@ impl<'a, 'e, R: AllocGlobal + Files<File = File>> Putting<'a, 'e, R> {
             }
         }
         done
+    }
+
+    /// Closes all folders.
+    ///
+    /// # Errors
+    /// Those of `OpenFolders::close`.
+    pub(crate) fn close(&mut self) -> io::Result<()> {
+        self.folders.close()
     }
 
     /// Makes a folder under a name in ours, and goes into it. `path` is the one that it has below the first one.

@@ -9,7 +9,7 @@ use nl_types::limits::PATH_LIMIT;
 use nl_types::{Items, VolError};
 use std::alloc::Global;
 use std::fs::File;
-use std::rt::Files;
+use std::rt::{Env, Files};
 
 /// The most paths of a tree, the root's included.
 const MOST_PATHS: usize = PATH_LIMIT + 1;
@@ -44,7 +44,7 @@ fn add_all(
 }
 
 /// A folder. What is in it comes onto what is pending.
-fn folder_read<R: AllocGlobal + Files<File = File> + Clone + Drop>(
+fn folder_read<R: AllocGlobal + Files<File = File> + Env + Clone + Drop>(
     alloc: Global,
     folder: &mut HostFolder<'_, R>,
     opened: &mut OpenFolders<'_, R>,
@@ -66,7 +66,7 @@ fn folder_read<R: AllocGlobal + Files<File = File> + Clone + Drop>(
 }
 
 /// A file, with the attributes that it had once it was read.
-fn file_read<R: AllocGlobal + Files<File = File> + Clone + Drop, W: Watching>(
+fn file_read<R: AllocGlobal + Files<File = File> + Env + Clone + Drop, W: Watching>(
     alloc: Global,
     folder: &mut HostFolder<'_, R>,
     opened: &OpenFolders<'_, R>,
@@ -83,7 +83,7 @@ fn file_read<R: AllocGlobal + Files<File = File> + Clone + Drop, W: Watching>(
     }))
 }
 
-fn link_read<R: AllocGlobal + Files<File = File> + Clone + Drop>(
+fn link_read<R: AllocGlobal + Files<File = File> + Env + Clone + Drop>(
     alloc: Global,
     folder: &mut HostFolder<'_, R>,
     opened: &OpenFolders<'_, R>,
@@ -99,7 +99,7 @@ fn link_read<R: AllocGlobal + Files<File = File> + Clone + Drop>(
 }
 
 /// What stands at a path. What is in a folder comes onto what is pending. None where it is left out.
-fn visit<R: AllocGlobal + Files<File = File> + Clone + Drop, W: Watching>(
+fn visit<R: AllocGlobal + Files<File = File> + Env + Clone + Drop, W: Watching>(
     alloc: Global,
     folder: &mut HostFolder<'_, R>,
     opened: &mut OpenFolders<'_, R>,
@@ -131,18 +131,13 @@ fn add(tree: &mut HostTree, path: Path, entry: HostEntry) -> Result<(), FolderEr
     Ok(())
 }
 
-/// All that is to be kept of a folder of the host, in the order of the paths, with the attributes that are kept.
-/// What vanishes meanwhile, can't be read to its end, or turns into something else is left out, and noted.
-///
-/// # Errors
-/// `Unread` where the system doesn't give the folder itself, which then knows why; `Refused` by `TooBig` where
-/// there are more paths than in any tree, and by `Memory`.
-pub fn read_folder<R: AllocGlobal + Files<File = File> + Clone + Drop, W: Watching>(
+/// All that is to be kept of a folder that is open, which is the first of some.
+fn read_opened<R: AllocGlobal + Files<File = File> + Env + Clone + Drop, W: Watching>(
     alloc: Global,
     folder: &mut HostFolder<'_, R>,
+    opened: &mut OpenFolders<'_, R>,
     watching: &mut W,
 ) -> Result<HostTree, FolderError> {
-    let mut opened = folder.opened()?;
     let mut tree = Items::new(alloc);
     let mut pending = Vec::new(alloc);
     pending.push(Pending {
@@ -158,10 +153,30 @@ pub fn read_folder<R: AllocGlobal + Files<File = File> + Clone + Drop, W: Watchi
         let Some(next) = pending.pop() else {
             return Ok(tree);
         };
-        let read = visit(alloc, folder, &mut opened, &next, &mut pending, watching)?;
+        let read = visit(alloc, folder, opened, &next, &mut pending, watching)?;
         if let Some(entry) = read {
             add(&mut tree, next.path, entry)?;
         }
     }
     Err(FolderError::Refused(VolError::TooBig))
+}
+
+/// All that is to be kept of a folder of the host, in the order of the paths, with the attributes that are kept.
+/// What vanishes meanwhile, can't be read to its end, or turns into something else is left out, and noted.
+///
+/// # Errors
+/// `Unread` where the system doesn't give the folder itself, which then knows why; `Refused` by `TooBig` where
+/// there are more paths than in any tree, and by `Memory`. `Unread` too where relative paths would lead elsewhere than
+/// before.
+pub fn read_folder<R: AllocGlobal + Files<File = File> + Env + Clone + Drop, W: Watching>(
+    alloc: Global,
+    folder: &mut HostFolder<'_, R>,
+    watching: &mut W,
+) -> Result<HostTree, FolderError> {
+    let mut opened = folder.opened()?;
+    let read = read_opened(alloc, folder, &mut opened, watching);
+    if let Err(error) = opened.close() {
+        folder.give_up(alloc, &[], &error)?;
+    }
+    read
 }
