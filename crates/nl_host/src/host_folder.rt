@@ -547,6 +547,9 @@ impl<R: AllocGlobal + Files<File = File> + Env + Clone + Drop> HostFolder<'_, R>
                 if !read.is_same {
                     self.note(alloc, path, Reason::Changed)?;
                 }
+                // Of some files, as those of /proc, the system tells fewer bytes than they give.
+                let count = listed.size.max(read.bytes.len() as u64);
+                self.bytes = before.saturating_add(count);
                 return Ok(Some(read));
             }
             Ok(None) => self.note(alloc, path, Reason::Replaced)?,
