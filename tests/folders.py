@@ -99,7 +99,7 @@ def full_text(image, new, size):
     most = int(size[:-1]) * (1 << 20 if size[-1] == "M" else 1 << 10)
     left = most - BLOCK * json.loads(done("df", image, "--json"))["needed"]
     return (f"{image}: is full: {new} bytes are new in blocks of files, and a volume of {size} has at most {left} beside "
-            "what its checkpoints need. Room comes by `forget`, `prune`, a larger --max, or a backup with --exclude")
+            "what its checkpoints need, for these, folders, inodes and summaries. Room comes by `forget`, `prune`, a larger --max, or a backup with --exclude")
 
 
 def new_image(size="8M"):
