@@ -237,6 +237,7 @@ fn text_of(fault: ArchiveFault) -> &'static str {
         ArchiveFault::BadName => "a name that can't stand in a path, or a link to nothing",
         ArchiveFault::UnknownKind => "a member of a kind that POSIX does not have",
         ArchiveFault::Sparse => SPARSE,
+        ArchiveFault::BadMap => "the map of its holes has no form, or doesn't fit it",
         ArchiveFault::NoTarget => "a hard link to no file or link before it",
         ArchiveFault::Taken => "a member below a file or a link, or in the place of a folder",
         ArchiveFault::GreatFile(_) => "has more than 64M, and no volume takes such files",
@@ -246,7 +247,7 @@ fn text_of(fault: ArchiveFault) -> &'static str {
 }
 
 /// What is said of a file with holes.
-const SPARSE: &str = "a file with holes in the form of GNU tar, which is not read: \
+const SPARSE: &str = "a file with holes in a form that GNU tar does not have: \
     bsdtar --no-read-sparse, and tar without --sparse, write it whole";
 
 /// What is said of an archive with too many bytes.
