@@ -61,7 +61,7 @@ const PATHS: [&str; 2] = ["PATH", "path"];
 /// the root, and so all that there is.
 pub fn judge_paths(alloc: Global, matches: &ArgMatches<'_>) -> Result<(), Fault> {
     for id in &PATHS {
-        if matches.get_str(*id).is_some_and(str::is_empty) {
+        if matches!(matches.get_str(*id), Some(word) if word.is_empty()) {
             return Err(fault_at(alloc, "PATH", "is empty; / is the root"));
         }
     }
