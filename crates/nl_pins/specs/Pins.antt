@@ -1,5 +1,5 @@
 -- What a file of pins says: a manifest, of which each line is of a checkpoint.
-use Rattle.std.specs.Prelude.{ℕ, Bool, false, ◌&&◌, ◌||◌, ◌==◌, not, if◌then◌else◌, List, [], ◌∷◌, ◌++◌, Option, None, Some}
+use Rattle.std.specs.Prelude.{◌≡◌, ◌<◌, ◌^◌, ℕ, Bool, true, false, ◌&&◌, ◌||◌, ◌==◌, not, if◌then◌else◌, List, [], ◌∷◌, ◌++◌, Option, None, Some, option_map}
 use Rattle.std.specs.Fmt.{decimal}
 use Rattle.std.specs.List.{filter}
 use Rattle.std.specs.Ordering.{is_lt}
@@ -10,7 +10,9 @@ use Rattle.nl_manifests.specs.declared.attributes.Attributes.{Attributes}
 use Rattle.nl_manifests.specs.declared.manifest.Line.{Line}
 use Rattle.nl_manifests.specs.declared.manifest.LineKind.{LineKind}
 use Rattle.nl_manifests.specs.declared.manifest.LineKind.TheVariants.{File, Link}
-use Rattle.nl_manifests.specs.Manifests.{printed}
+use Rattle.nl_manifests.specs.declared.manifest.Manifest.{Manifest}
+use Rattle.nl_manifests.specs.Manifests.{are_lines, is_kind, printed}
+use Rattle.nl_manifests.specs.Readings.{manifest_in}
 
 -- ---- lines
 
@@ -83,3 +85,28 @@ is_before line other = is_lt (name_cmp other.name line.name)
 -- a line amid others, in the order of the names
 abbrev pub with_line : Line → List Line → List Line
 with_line line lines = filter (is_before line) lines ++ line ∷ filter (λ l. not (is_before line l)) lines
+
+-- the same with checkpoint n pinned, beside those of the others that are among the rows
+abbrev pub with_pin : List Row → (n : ℕ) → (text : List ℕ) → (moment : ℕ) → List Line → List Line
+with_pin rows n text moment lines = with_line (pin_line n text moment) (others rows n lines)
+
+-- ---- laws
+
+-- what is read of a file can be printed
+abbrev pub ReadPinsArePrintable : Type 0
+ReadPinsArePrintable =
+    (bytes : List ℕ) (m : Manifest) → manifest_in bytes ≡ Some m → are_lines m.lines ≡ true
+
+-- what can be printed is read again
+abbrev pub PinsAreReadAgain : Type 0
+PinsAreReadAgain =
+    (bytes : List ℕ) (lines : List Line) → are_lines lines ≡ true → file_of lines ≡ Some bytes
+    → option_map (λ m. m.lines) (manifest_in bytes) ≡ Some lines
+
+-- and it can be where pins come and go, with nothing noted of them or some text without NUL
+pub record PinsStayPrintable : Type 0 where
+  pub taken : (rows : List Row) (n : ℕ) (lines : List Line) → are_lines lines ≡ true
+      → are_lines (others rows n lines) ≡ true
+  pub put : (rows : List Row) (n moment : ℕ) (text : List ℕ) (lines : List Line)
+      → n < 2 ^ 64 → moment < 2 ^ 64 → is_kind (kind_with text) ≡ true → are_lines lines ≡ true
+      → are_lines (with_pin rows n text moment lines) ≡ true

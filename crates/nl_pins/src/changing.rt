@@ -3,7 +3,7 @@ ghost use Rattle.std.specs.Prelude.{◌≡◌, ◌++◌, ◌∷◌, [], not, IfO
 ghost use Rattle.std.specs.Fmt.{decimal};
 ghost use Rattle.std.specs.List.{filter};
 ghost use Rattle.nl_types.specs.Plain.Decimals.{decimal_in};
-ghost use Rattle.nl_pins.specs.Pins.{has_row, is_among, is_before, is_other, kind_with, others, pin_line, with_line};
+ghost use Rattle.nl_pins.specs.Pins.{has_row, is_among, is_before, is_other, kind_with, others, pin_line, with_line, with_pin};
 
 use crate::pins::{Pins, is_of, number_of, pinned_at};
 use nl_manifests::{Line, LineKind};
@@ -177,7 +177,7 @@ impl Pins {
         moment: u64,
     ) -> Result<Pins, AllocError>
         ensures { IfOk result (λ pins. pins.lines
-            ≡ with_line (pin_line number text.now moment) (others rows.now number self.lines)) }
+            ≡ with_pin rows.now number text.now moment self.lines) }
     {
         let lines = others(alloc, rows, number, self.lines)?;
         let line = pin_line(alloc, number, text, moment)?;

@@ -5,6 +5,7 @@
 mod changing;
 mod counts;
 mod expiring;
+pub mod laws;
 mod pins;
 mod rules;
 mod trees;

@@ -1,0 +1,2 @@
+-- What other crates may cite of trees without pins.
+pub mod PinlessTrees
