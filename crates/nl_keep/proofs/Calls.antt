@@ -13,8 +13,8 @@ use Rattle.nl_folders.specs.Plans.{AreWhereTheyDiffer, GoesOn, KeepMoved, KeepMo
 use Rattle.nl_keep.specs.declared.making.Cost.{Cost}
 use Rattle.nl_keep.specs.Made.{AreMadeBy, DoesCall, DoesCalls, bytes_of_all, told}
 use Rattle.nl_keep.specs.Private.Costs.{IsMade, IsMadeSoFar, cost_of, with_more}
-use Rattle.nl_keep.specs.Stored.{ChangesTreeAlone, StoresOver, StoresTree, TakesSnapshot}
-use Rattle.nl_keep.specs.Volumes.{Follows, LeadsTo, Meaning, Stays}
+use Rattle.nl_keep.specs.Stored.{ChangesTreeAlone, StoresOver, TakesSnapshot}
+use Rattle.nl_keep.specs.Volumes.{Follows, LeadsTo, Meaning}
 use Rattle.nl_keep.proofs.Steps.{same_stored}
 
 -- ---- one call
@@ -239,17 +239,4 @@ stored_over moment n earlier wanted cost Old Mid New made takes w means =
             number = b.2.number ∙ ap (λ (cs : List (ℕ × Copy)). greatest (numbers cs) + 1) a.2.alone.copies;
             world = b.2.world ∙ same_stored moment a.0.tree wanted w a.0 tree a.2.alone;
           },
-    )
-
--- and where the earlier tree was read of it, that is stored
-pub stored : (moment n : ℕ) (earlier wanted : Tree) (Old Mid New : Meaning)
-    → ((w : World) → Old w → earlier ≡ w.tree) → LeadsTo Stays Old Mid
-    → LeadsTo (StoresOver moment n earlier wanted) Mid New → LeadsTo (StoresTree moment n wanted) Old New
-stored moment n earlier wanted Old Mid New reads stays over w means =
-    let a = stays w means in
-    let b = over a.0 a.1 in (
-      b.0,
-      b.1,
-      subst (λ (x : World). StoresTree moment n wanted x b.0) a.2
-          (b.2 (ap (λ (x : World). x.tree) a.2 ∙ sym (reads w means))),
     )

@@ -1,9 +1,9 @@
 -- What forgetting takes out, and what it keeps.
 use Rattle.std.proofs.Common.{◌≡◌, ℕ, ◌<◌, Bool, true, false, cond, not, List, [], ◌∷◌, ◌++◌, map, Option, Some, None, Ok, Err, refl, sym, ap, ◌∙◌, subst, inl, inr, true≢false, arith, ltb-true, lt-ltb, leb-true, leb-false, eqb-true}
-use Rattle.std.specs.Prelude.{◌≢◌, ◌==◌, ◌&&◌, ◌||◌, nat_le, nat_lt, IfOk}
+use Rattle.std.specs.Prelude.{◌≢◌, ◌==◌, ◌&&◌, ◌||◌, ◌≤◌, nat_le, nat_lt, is_some, IfOk}
 use Rattle.std.specs.List.{filter}
 use Rattle.std.specs.Option.{option_map, option_map_or}
-use Rattle.std.proofs.lemmas.Bool.{and_parts, eqb-false}
+use Rattle.std.proofs.lemmas.Bool.{and_parts, eqb-false, not-true, or_parts}
 use Rattle.std.proofs.lemmas.Option.{same_Some}
 use Rattle.std.specs.Ordering.{nat_cmp, eq_by_cmp, is_lt}
 use Rattle.std.specs.FinMap.{find, is_sorted}
@@ -18,16 +18,17 @@ use Rattle.nl_types.specs.declared.row.Range.{Range}
 use Rattle.nl_types.specs.declared.row.Row.{Row}
 use Rattle.nl_types.specs.Plain.CheckpointLaws.{is_removable}
 use Rattle.nl_types.specs.Plain.NumberLists.{is_one_of}
-use Rattle.nl_types.specs.Plain.Rows.{is_shown, kept_row, listing, range_removal, removable, rows_between}
+use Rattle.nl_types.specs.Plain.Rows.{is_shown, is_snapshot, kept_row, listing, range_removal, removable, rows_between}
 use Rattle.nl_types.specs.Plain.Worlds.{World, Copy, Outcome, Reply, copy_at, copy_row, copies_with_mode, is_given_up, is_mounted, latest, moded, rows, step, take_out}
 use Rattle.nl_types.specs.Facts.EventCases.{either_gives, refused_if_gives}
 use Rattle.nl_types.specs.Facts.Booleans.{not_true}
 use Rattle.nl_types.specs.Facts.NumberedLists.{before-lt}
-use Rattle.nl_types.specs.Facts.NumberedParts.{find-valued, is_sorted-kept, is_sorted-valued, tied-same}
-use Rattle.nl_types.specs.Facts.TakenOut.{among-range, copy_at-take_out}
+use Rattle.nl_types.specs.Facts.NumberedParts.{find-valued, found_le_top, is_sorted-kept, is_sorted-valued, tied-same, top-valued}
+use Rattle.nl_types.specs.Facts.TakenOut.{among-range, copy_at-take_out, latest-take_out, range_may_go, same_latest}
 use Rattle.nl_types.specs.Facts.ToldCopies.{IsTold, kept_row-told, range_of, range_removal-is}
-use Rattle.nl_keep.specs.Forgotten.{Forgets, ForgetsOne, MakesPlain, TakesRange, TellsFrom, last_minor, rows_behind, run_end, run_of, with_plain}
-use Rattle.nl_keep.specs.Lasting.{ForgetsChangeCopiesAlone, ForgetsKeepOthers, ForgottenAreGone}
+use Rattle.nl_keep.specs.Forgotten.{Forgets, ForgetsOne, MakesAllPlain, MakesPlain, TakesRange, TellsFrom, last_minor, rows_behind, run_end, run_of, with_plain}
+use Rattle.nl_keep.specs.Lasting.{ForgetsChangeCopiesAlone, ForgetsKeepOthers, ForgottenAreEarlier, ForgottenAreGone}
+use Rattle.nl_keep.specs.MinorOnes.{is_plain_minor_copy}
 use Rattle.nl_keep.specs.Volumes.{Follows, LeadsTo, Meaning}
 
 -- ---- a checkpoint is made plain
@@ -214,6 +215,19 @@ forgets_more ns n Old Mid New first one w means =
     let b = one a.0 a.1 in
     (b.0, b.1, forgets-push ns n w a.0 b.0 a.2 b.2)
 
+made-plain-push : (ns : List ℕ) (n : ℕ) (old mid new : World) → MakesAllPlain ns old mid → MakesPlain n mid new
+    → MakesAllPlain (ns ++ n ∷ []) old new
+made-plain-push [] n old mid new same one = (new, subst (λ (w : World). MakesPlain n w new) same one, refl)
+made-plain-push (m ∷ ns) n old mid new first one =
+    (first.0, first.1, made-plain-push ns n first.0 mid new first.2 one)
+
+pub made_plain_more : (ns : List ℕ) (n : ℕ) (Old Mid New : Meaning) → LeadsTo (MakesAllPlain ns) Old Mid
+    → LeadsTo (MakesPlain n) Mid New → LeadsTo (MakesAllPlain (ns ++ n ∷ [])) Old New
+made_plain_more ns n Old Mid New first one w means =
+    let a = first w means in
+    let b = one a.0 a.1 in
+    (b.0, b.1, made-plain-push ns n w a.0 b.0 a.2 b.2)
+
 pub forgets_alone : ForgetsChangeCopiesAlone
 forgets_alone [] old new same = record {
   tree = ap (λ (w : World). w.tree) same;
@@ -306,20 +320,24 @@ ends_earlier n q copy own above (e ∷ es) last low sorted is =
           ]
     ] refl is
 
--- so it isn't of the run
+-- so neither it nor a snapshot is of the run
 not_of_run : (n q : ℕ) (copy : Copy) (w : World) → is_sorted nat_cmp w.copies ≡ true → (q == n) ≡ false
-    → copy_at w q ≡ Some copy → copy.minor ≡ false → is_one_of (run_of n w) q ≡ false
+    → copy_at w q ≡ Some copy → is_plain_minor_copy copy ≡ false → is_one_of (run_of n w) q ≡ false
 not_of_run n q copy w sorted apart kept own =
     let last = run_end n (rows w) in
     not_true (is_one_of (run_of n w) q) (λ among.
     let passes : is_removable w n last q copy ≡ true =
     ap (λ (o : Option Copy). option_map_or (is_removable w n last q) o false) (sym kept)
     ∙ sym (among-range w n last q sorted) ∙ among in
-    let parts = and_parts (nat_le n q && nat_le q last) _ passes in
+    let parts =
+    and_parts (nat_le n q && nat_le q last) (not (is_snapshot copy.mode || q == latest w)) passes in
     let ends = and_parts (nat_le n q) (nat_le q last) parts.0 in
+    let neither =
+    or_parts (is_snapshot copy.mode) (q == latest w) (not-true (is_snapshot copy.mode || q == latest w) parts.1) in
+    let major : copy.minor ≡ false = sym (ap (λ b. not b && copy.minor) neither.0) ∙ own in
     let apart : q ≢ n = eqb-false q n apart in
     let above : n < q = omega (arith, leb-true n q ends.0, apart) in
-    let low : last < q = ends_earlier n q copy own above w.copies n above sorted kept in
+    let low : last < q = ends_earlier n q copy major above w.copies n above sorted kept in
     omega (arith, leb-true q last ends.1))
 
 moded_other : (n q : ℕ) (copy : Copy) → (q == n) ≡ false → moded n Plain q copy ≡ copy
@@ -334,8 +352,8 @@ sorted_on n old new one sorted =
     (is_sorted-valued (moded n Plain) old.copies ∙ sorted)
 
 other_on : (n q : ℕ) (copy : Copy) (old new : World) → ForgetsOne n old new
-    → is_sorted nat_cmp old.copies ≡ true → (q == n) ≡ false → copy_at old q ≡ Some copy → copy.minor ≡ false
-    → copy_at new q ≡ Some copy
+    → is_sorted nat_cmp old.copies ≡ true → (q == n) ≡ false → copy_at old q ≡ Some copy
+    → is_plain_minor_copy copy ≡ false → copy_at new q ≡ Some copy
 other_on n q copy old new one sorted apart kept own =
     let made = with_plain n old in
     let here : copy_at made q ≡ Some copy =
@@ -355,3 +373,43 @@ forgets_keep_others (n ∷ numbers) q copy old new sorted run apart kept own =
     neither : (a b : Bool) → (a || b) ≡ false → (a ≡ false) × (b ≡ false)
     neither true b is = absurd (true≢false is)
     neither false b is = (refl, is)
+
+-- ---- the latest one
+
+-- where a checkpoint is forgotten, the latest one stays, and stays the latest
+latest_on : (n : ℕ) (old new : World) → ForgetsOne n old new → is_sorted nat_cmp old.copies ≡ true
+    → is_some (copy_at old (latest old)) ≡ true
+    → (latest new ≡ latest old) × (is_some (copy_at new (latest new)) ≡ true)
+latest_on n old new one sorted kept =
+    let made = with_plain n old in
+    let gone = run_of n made in
+    let last : latest made ≡ latest old = top-valued (moded n Plain) old.copies in
+    let there : is_some (copy_at made (latest made)) ≡ true =
+    ap (λ k. is_some (copy_at made k)) last ∙ ap is_some (find-valued (moded n Plain) old.copies (latest old))
+    ∙ still (copy_at old (latest old)) kept in
+    let may =
+    range_may_go made n (run_end n (rows made)) (is_sorted-valued (moded n Plain) old.copies ∙ sorted) in (
+      ap latest one.world ∙ same_latest made gone there may ∙ last,
+      ap (λ (w : World). is_some (copy_at w (latest w))) one.world
+          ∙ ap is_some (latest-take_out made gone there may) ∙ there,
+    )
+  where
+    still : (o : Option Copy) → is_some o ≡ true → is_some (option_map (moded n Plain (latest old)) o) ≡ true
+    still None none = none
+    still (Some copy) is = refl
+
+pub forgotten_are_earlier : ForgottenAreEarlier
+forgotten_are_earlier [] k old new sorted kept same =
+    (ap latest same, λ none. absurd (true≢false (sym none)))
+forgotten_are_earlier (n ∷ numbers) k old new sorted kept run =
+    let mid = run.0 in
+    let one = latest_on n old mid run.1 sorted kept in
+    let rest = forgotten_are_earlier numbers k mid new (sorted_on n old mid run.1 sorted) one.1 run.2 in
+    let low : n ≤ latest old = found_le_top old.copies n (ap is_some run.1.kept.1) in (
+      rest.0 ∙ one.0,
+      λ among.
+          elim (k == n) as (λ b. (k == n) ≡ b → (b || is_one_of numbers k) ≡ true → k ≤ latest old) [
+            | true ↦ λ here _. let same : k ≡ n = eqb-true k n here in omega (arith, same, low)
+            | false ↦ λ _ later. let le = rest.1 later in let same = one.0 in omega (arith, le, same)
+          ] refl among,
+    )

@@ -1,17 +1,12 @@
 -- Kept trees last.
-use Rattle.std.proofs.Common.{◌≡◌, ℕ, ◌+◌, Bool, true, false, cond, [], ◌∷◌, Option, Some, None, refl, sym, ap, ◌∙◌, subst, inl, inr, is_some, true≢false}
-use Rattle.std.specs.Prelude.{nat_le}
-use Rattle.nl_types.specs.declared.error.VolError.TheVariants as error
+use Rattle.std.proofs.Common.{◌≡◌, ℕ, true, [], ◌∷◌, Option, Some, None, refl, sym, ap, ◌∙◌, subst, inl, inr, is_some, true≢false}
 use Rattle.nl_types.specs.declared.event.Event.{Event}
-use Rattle.nl_types.specs.declared.event.Event.TheVariants as event
 use Rattle.nl_types.specs.Plain.Laws.{CopiesAreKept, CopiesStay, TakesOut}
-use Rattle.nl_types.specs.Plain.Limits.{checkpoint_number_limit}
 use Rattle.nl_types.specs.Plain.Trees.{Tree}
-use Rattle.nl_types.specs.Plain.Worlds.{World, Copy, Outcome, Reply, copy_at, is_moving, latest, minor_copies, refused_if, step, with_minor}
-use Rattle.nl_types.specs.Facts.EventCases.{refused_if_gives}
+use Rattle.nl_types.specs.Plain.Worlds.{World, Copy, Reply, copy_at}
 use Rattle.nl_types.specs.Facts.NumberedLists.{find_stays}
 use Rattle.nl_keep.specs.Facts.StoredTrees.{one_tree, stored_tree}
-use Rattle.nl_keep.specs.Lasting.{BlockEventsKeepAll, IsOfBlocks, KeepsAll, KeptTreesLast, StoredTreesComeBack, StoresKeepCopies}
+use Rattle.nl_keep.specs.Lasting.{KeptTreesLast, StoredTreesComeBack, StoresKeepCopies}
 use Rattle.nl_keep.specs.Stored.{KeepsTree}
 use Rattle.nl_keep.specs.Volumes.{Follows}
 
@@ -55,43 +50,3 @@ come_back kept same before stored later moment n tree read events replies stores
 pub stores_keep_copies : StoresKeepCopies
 stores_keep_copies moment k n tree copy old new stores at =
     ap (λ (w : World). copy_at w n) stores.world ∙ find_stays old.copies _ n copy at
-
-all_itself : (w : World) → KeepsAll w w
-all_itself w = record { copies = λ n copy at. at; tree = refl; dirty = refl; mounts = refl }
-
-all_minored : (w : World) (now : ℕ) → KeepsAll w (with_minor w now)
-all_minored w now = record {
-  copies = λ n copy at. find_stays w.copies (minor_copies w now) n copy at;
-  tree = refl;
-  dirty = refl;
-  mounts = refl;
-}
-
-abbrev Keeps : World → Outcome → Type 0
-Keeps w o = KeepsAll w o.1
-
-moved : (cleaned : Reply) (w : World) (segment limit now : ℕ)
-    → Keeps w (step cleaned w (event.Move segment limit now))
-moved cleaned w segment limit now = by (is_moving cleaned)
-  where
-    by : (b : Bool)
-        → Keeps w (cond {A = Outcome} b
-        (refused_if (nat_le checkpoint_number_limit (latest w + 1)) error.NumbersSpent w
-        (cleaned, with_minor w now))
-        (cleaned, w))
-    by true =
-        refused_if_gives (Keeps w) (nat_le checkpoint_number_limit (latest w + 1)) error.NumbersSpent w
-        (cleaned, with_minor w now) (λ e. all_itself w) (λ _. all_minored w now)
-    by false = all_itself w
-
-block_step : (cleaned : Reply) (w : World) (e : Event) → IsOfBlocks e → Keeps w (step cleaned w e)
-block_step cleaned w (event.Move segment limit now) is = moved cleaned w segment limit now
-block_step cleaned w (event.Retire segment) is = all_itself w
-block_step cleaned w (event.Resize segments) is = all_itself w
-block_step cleaned w _ is = absurd is
-
-pub block_events_keep_all : BlockEventsKeepAll
-block_events_keep_all e reply old new is follows = elim follows.1 [
-  | inl s ↦ subst (Keeps old) s (block_step follows.0 old e is)
-  | inr r ↦ subst (KeepsAll old) (sym r.unchanged) (all_itself old)
-]

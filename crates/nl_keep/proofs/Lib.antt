@@ -9,3 +9,4 @@ pub mod Lastings
 pub mod Forgets
 pub mod Judgements
 pub mod MinorRemovals
+pub mod Tidied

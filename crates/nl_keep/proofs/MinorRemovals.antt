@@ -1,35 +1,24 @@
 -- What removing minor checkpoints takes out, and what it keeps.
-use Rattle.std.proofs.Common.{◌≡◌, ℕ, ◌-◌, ◌<◌, Bool, true, false, cond, not, List, [], ◌∷◌, ◌++◌, length, map, take, drop, Some, None, Ok, Err, refl, sym, ap, ◌∙◌, subst, inl, inr, true≢false, arith, eqb-true, ltb-true, le-leb}
+use Rattle.std.proofs.Common.{◌≡◌, ℕ, ◌<◌, Bool, true, false, cond, not, List, [], ◌∷◌, ◌++◌, map, Ok, Err, refl, sym, ap, ◌∙◌, subst, inl, inr, arith, ltb-true, le-leb}
 use Rattle.std.specs.Prelude.{◌==◌, ◌&&◌, ◌||◌, nat_le, nat_lt}
 use Rattle.std.specs.List.{filter, list_all}
 use Rattle.std.proofs.lemmas.Bool.{and_parts}
-use Rattle.std.proofs.lemmas.List.{take-append-drop}
 use Rattle.std.proofs.lemmas.List.Elements.{filter-append}
-use Rattle.std.proofs.lemmas.Option.{same_Some}
-use Rattle.std.specs.Ordering.{nat_cmp}
-use Rattle.std.specs.FinMap.{find, is_sorted}
-use Rattle.std.specs.FinMap.Entries.{below_all}
 use Rattle.nl_types.specs.declared.event.Event.TheVariants as event
 use Rattle.nl_types.specs.declared.reply.Answer.{Answer}
 use Rattle.nl_types.specs.declared.row.Row.{Row}
 use Rattle.nl_types.specs.Plain.Limits.{checkpoint_number_limit}
 use Rattle.nl_types.specs.Plain.NumberLists.{is_one_of}
-use Rattle.nl_types.specs.Plain.Rows.{is_snapshot, number_of, removal}
-use Rattle.nl_types.specs.Plain.Worlds.{World, Copy, IsWorld, Outcome, Reply, copies_without, copy_at, copy_row, latest, rows, step, take_out}
+use Rattle.nl_types.specs.Plain.Rows.{number_of, removal}
+use Rattle.nl_types.specs.Plain.Worlds.{World, Copy, IsWorld, Outcome, Reply, copies_without, copy_row, latest, rows, step, take_out}
 use Rattle.nl_types.specs.Facts.EventCases.{either_gives}
-use Rattle.nl_types.specs.Facts.Booleans.{not_true}
-use Rattle.nl_types.specs.Facts.NumberedLists.{tied-false}
-use Rattle.nl_types.specs.Facts.NumberedParts.{tied-true}
-use Rattle.nl_types.specs.Facts.TakenOut.{copy_at-take_out}
 use Rattle.nl_keep.specs.Forgotten.{TellsFrom}
-use Rattle.nl_keep.specs.Lasting.{MinorRemovalsKeepOwn}
 use Rattle.nl_keep.specs.MinorOnes.{RemovesMinor, TakesOutAll, earlier_rows, is_plain_minor, minor_ones}
 use Rattle.nl_keep.specs.Volumes.{Follows, LeadsTo, Meaning}
-use Rattle.nl_keep.proofs.Forgets.{found_above}
 
 -- ---- copies taken out one after another
 
-is_one_of-append : (a b : List ℕ) (k : ℕ) → is_one_of (a ++ b) k ≡ (is_one_of a k || is_one_of b k)
+pub is_one_of-append : (a b : List ℕ) (k : ℕ) → is_one_of (a ++ b) k ≡ (is_one_of a k || is_one_of b k)
 is_one_of-append [] b k = refl
 is_one_of-append (n ∷ a) b k =
     elim (k == n) as (λ t. (t || is_one_of (a ++ b) k) ≡ ((t || is_one_of a k) || is_one_of b k)) [
@@ -60,7 +49,7 @@ both_gone a b (c ∷ copies) =
     ]
     ∙ sym (ap (λ t. cond (not t) (c ∷ both) both) (is_one_of-append a b c.0))
 
-takes_none : (w : World) → TakesOutAll [] w w
+pub takes_none : (w : World) → TakesOutAll [] w w
 takes_none w = ap (λ (cs : List (ℕ × Copy)). record w { copies = cs }) (none_gone w.copies)
 
 takes_both : (a b : List ℕ) (w v u : World) → TakesOutAll a w v → TakesOutAll b v u → TakesOutAll (a ++ b) w u
@@ -120,7 +109,7 @@ map-both : (xs ys : List Row) → map number_of (xs ++ ys) ≡ map number_of xs 
 map-both [] ys = refl
 map-both (x ∷ xs) ys = ap (λ (ns : List ℕ). x.number ∷ ns) (map-both xs ys)
 
-minor_ones-append : (xs ys : List Row) → minor_ones (xs ++ ys) ≡ minor_ones xs ++ minor_ones ys
+pub minor_ones-append : (xs ys : List Row) → minor_ones (xs ++ ys) ≡ minor_ones xs ++ minor_ones ys
 minor_ones-append xs ys =
     ap (map number_of) (filter-append is_plain_minor xs ys)
     ∙ map-both (filter is_plain_minor xs) (filter is_plain_minor ys)
@@ -169,78 +158,3 @@ removes_minor told Old Mid New sound tells takes w means =
       b.2 ∙ ap (λ (rs : List Row). take_out (minor_ones (earlier_rows rs)) a.0) all
           ∙ ap (take_out (minor_ones (earlier_rows (rows w)))) a.2.1,
     )
-
--- ---- what stays
-
--- a number of a minor one is found, and that copy is minor
-among_minor : (copies : List (ℕ × Copy)) (k : ℕ) → is_sorted nat_cmp copies ≡ true
-    → is_one_of (minor_ones (map copy_row copies)) k ≡ true
-    → (copy : Copy) × (find nat_cmp k copies ≡ Some copy) × (copy.minor ≡ true)
-among_minor [] k sorted among = absurd (true≢false (sym among))
-among_minor (e ∷ es) k sorted among =
-    elim (is_plain_minor (copy_row e)) as (λ b.
-    is_plain_minor (copy_row e) ≡ b
-    → is_one_of (map number_of (cond b (copy_row e ∷ rest) rest)) k ≡ true → Minor (e ∷ es)) [
-      | true ↦ λ minor found.
-          elim (k == e.0) as (λ t.
-          (k == e.0) ≡ t → (t || is_one_of (map number_of rest) k) ≡ true → Minor (e ∷ es)) [
-            | true ↦ λ here _. first (eqb-true k e.0 here) minor
-            | false ↦ λ _ later. behind (among_minor es k parts.1 later)
-          ] refl found
-      | false ↦ λ _ later. behind (among_minor es k parts.1 later)
-    ] refl among
-  where
-    Minor : List (ℕ × Copy) → Type 0
-    Minor cs = (copy : Copy) × (find nat_cmp k cs ≡ Some copy) × (copy.minor ≡ true)
-
-    rest : List Row
-    rest = filter is_plain_minor (map copy_row es)
-
-    parts : (below_all nat_cmp e.0 es ≡ true) × (is_sorted nat_cmp es ≡ true)
-    parts = and_parts (below_all nat_cmp e.0 es) (is_sorted nat_cmp es) sorted
-
-    first : k ≡ e.0 → is_plain_minor (copy_row e) ≡ true → Minor (e ∷ es)
-    first same minor = (
-      e.1,
-      ap (λ b. cond b (Some e.1) (find nat_cmp k es)) (tied-true k e.0 same),
-      (and_parts (not (is_snapshot e.1.mode)) e.1.minor minor).1,
-    )
-
-    behind : Minor es → Minor (e ∷ es)
-    behind found =
-        let above = found_above e.0 k found.0 es parts.0 found.1 in (
-          found.0,
-          ap (λ b. cond b (Some e.1) (find nat_cmp k es)) (tied-false k e.0 (λ same. omega arith)) ∙ found.1,
-          found.2,
-        )
-
--- what is among the first ones is among all
-among_first : (m k : ℕ) (all : List Row) → is_one_of (minor_ones (take m all)) k ≡ true
-    → is_one_of (minor_ones all) k ≡ true
-among_first m k all among =
-    subst (λ (rs : List Row). is_one_of (minor_ones rs) k ≡ true) (take-append-drop m all)
-    (ap (λ (ns : List ℕ). is_one_of ns k) (minor_ones-append (take m all) (drop m all))
-    ∙ is_one_of-append (minor_ones (take m all)) (minor_ones (drop m all)) k
-    ∙ ap (λ b. b || is_one_of (minor_ones (drop m all)) k) among)
-
-pub minor_removals_keep_own : MinorRemovalsKeepOwn
-minor_removals_keep_own old new sorted removes = record {
-  copies = λ n copy at own.
-      ap (λ (w : World). copy_at w n) removes ∙ copy_at-take_out old gone n
-      ∙ ap (λ b. cond b None (copy_at old n)) (not_among n copy at own) ∙ at;
-  tree = ap (λ (w : World). w.tree) removes;
-  dirty = ap (λ (w : World). w.dirty) removes;
-  mounts = ap (λ (w : World). w.mounts) removes;
-}
-  where
-    gone : List ℕ
-    gone = minor_ones (earlier_rows (rows old))
-
-    not_among : (n : ℕ) (copy : Copy) → copy_at old n ≡ Some copy → copy.minor ≡ false
-        → is_one_of gone n ≡ false
-    not_among n copy at own =
-        not_true (is_one_of gone n) (λ among.
-        let found =
-        among_minor old.copies n sorted (among_first (length (rows old) - 1) n (rows old) among) in
-        let same : copy ≡ found.0 = same_Some copy found.0 (sym at ∙ found.1) in
-        true≢false (sym found.2 ∙ sym (ap (λ (c : Copy). c.minor) same) ∙ own))

@@ -23,6 +23,7 @@ use Rattle.nl_folders.specs.declared.folder.FolderError.TheVariants.{Refused}
 use Rattle.nl_folders.specs.Refusals.{RefusesPath}
 use Rattle.nl_folders.specs.Spelled.{spelling}
 use Rattle.nl_keep.specs.Private.Refused.{RefusesQuestion}
+use Rattle.nl_keep.specs.Refusals.{RefusesFile}
 use Rattle.nl_keep.specs.Shown.{ShowsCurrent, ShowsKept}
 use Rattle.nl_keep.specs.Volumes.{Follows, LeadsTo, Meaning, volume_refusals}
 use Rattle.nl_keep.proofs.Spelling.{named_or_long}
@@ -140,4 +141,22 @@ bytes_refused path len tree bytes reply e in_names found (inl is) other refused 
           ∙ ap (λ (r : Result (List ℕ) VolError).
           and_then r (λ b. Ok (answer.Bytes (take len (drop 0 b))))) found))
       | inr long ↦ inr (refused error.BadPath (is ∙ ap given long.0), long.1)
+    ]
+
+-- and where no file stands there, as the tree says
+pub missing_refused : (path : Path) (len : ℕ) (tree : Tree) (x : VolError) (reply : Reply) (e : FolderError)
+    → list_all is_name path ≡ true → file_at tree path ≡ Err x
+    → Replies tree (ask.Bytes (spelling path) 0 len) reply
+    → ((y : VolError) → reply ≡ Err y → e ≡ Refused y) → RefusesFile path x e
+missing_refused path len tree x reply e in_names missing (inr memory) refused =
+    inr (inl (refused error.Memory memory))
+missing_refused path len tree x reply e in_names missing (inl is) refused =
+    let given : Result Path VolError → Reply = λ r. and_then r (read tree 0 len) in
+    elim (named_or_long path in_names) [
+      | inl spelled ↦
+          inl (refused x
+          (is ∙ ap given spelled
+          ∙ ap (λ (r : Result (List ℕ) VolError).
+          and_then r (λ b. Ok (answer.Bytes (take len (drop 0 b))))) missing))
+      | inr long ↦ inr (inr (refused error.BadPath (is ∙ ap given long.0), long.1))
     ]

@@ -1,6 +1,6 @@
 -- When a tree isn't stored.
-use Rattle.std.proofs.Common.{◌≡◌, ◌⊎◌, ℕ, suc, ◌+◌, ◌-◌, ◌<◌, Bool, true, false, cond, ◌&&◌, List, [], ◌∷◌, ◌++◌, length, Some, None, Ok, Err, refl, sym, ap, ◌∙◌, subst, inl, inr, is_some, true≢false, arith, leb-false, leb-true, ltb-false, ltb-true, length-append}
-use Rattle.std.specs.Prelude.{◌==◌, Any, nat_le, nat_lt}
+use Rattle.std.proofs.Common.{◌≡◌, ◌⊎◌, ℕ, ◌+◌, ◌-◌, ◌<◌, Bool, true, false, cond, ◌&&◌, List, [], ◌∷◌, ◌++◌, length, Some, None, Ok, Err, refl, sym, ap, ◌∙◌, subst, inl, inr, is_some, true≢false, arith, leb-false, leb-true, ltb-false, ltb-true, length-append}
+use Rattle.std.specs.Prelude.{◌==◌, nat_le, nat_lt}
 use Rattle.std.specs.declared.cmp.Ordering.TheVariants.{Less, Equal, Greater}
 use Rattle.std.specs.Cmp.{tied_itself}
 use Rattle.std.specs.Cmp.Lexicographic.{nat_list_cmp_total}
@@ -21,7 +21,7 @@ use Rattle.nl_types.specs.declared.reply.Object.{Object}
 use Rattle.nl_types.specs.declared.reply.Object.TheVariants.{Dir, File}
 use Rattle.nl_types.specs.Plain.Limits.{checkpoint_number_limit, file_limit, path_length_limit}
 use Rattle.nl_types.specs.Plain.Paths.{Name, Path, name_cmp, path_cmp, same_name, same_path}
-use Rattle.nl_types.specs.Plain.Trees.{Tree, IsTree, IsIn, lookup}
+use Rattle.nl_types.specs.Plain.Trees.{Tree, IsTree, lookup}
 use Rattle.nl_types.specs.Plain.Calls.{Changed, and_then, change, is_dir}
 use Rattle.nl_types.specs.Plain.Runs.{IsRefused, Writes}
 use Rattle.nl_types.specs.Plain.Worlds.{World, Copy, Outcome, Reply, either, greatest, latest, numbers, refused_if}
@@ -29,9 +29,8 @@ use Rattle.nl_types.specs.Facts.Booleans.{not_true}
 use Rattle.nl_types.specs.Facts.EventCases.{after_change, after_checkpoint, new_copy}
 use Rattle.nl_types.specs.Facts.Lookups.{names_equal, same_path-itself}
 use Rattle.nl_types.specs.Facts.TreeLaws.{path_total, same_path-equal}
-use Rattle.nl_folders.specs.declared.folder.FolderError.{FolderError}
 use Rattle.nl_folders.specs.Plans.{GoesOn, Progress, tree_after_all}
-use Rattle.nl_folders.specs.Refusals.{IsTooLong, RefusesTree}
+use Rattle.nl_folders.specs.Refusals.{IsTooLong}
 use Rattle.nl_folders.specs.Spelled.{joined}
 use Rattle.nl_keep.specs.declared.making.Cost.{Cost}
 use Rattle.nl_keep.specs.declared.storing.KeepError.{KeepError}
@@ -39,8 +38,8 @@ use Rattle.nl_keep.specs.declared.storing.KeepError.TheVariants.{Refused}
 use Rattle.nl_keep.specs.Private.Costs.{IsMade, IsMadeSoFar}
 use Rattle.nl_keep.specs.Private.Judged.{all_follow, follows, is_rooted, is_small, is_spelled}
 use Rattle.nl_keep.specs.Private.Refused.{RefusesCalls}
-use Rattle.nl_keep.specs.Refusals.{RefusesEntries, RefusesSnapshot, RefusesStore, passed_on}
-use Rattle.nl_keep.specs.Volumes.{Follows, LeadsTo, Meaning, Stays, volume_refusals}
+use Rattle.nl_keep.specs.Refusals.{RefusesSnapshot, RefusesStore}
+use Rattle.nl_keep.specs.Volumes.{Follows, LeadsTo, Meaning, volume_refusals}
 use Rattle.nl_keep.proofs.Calls.{GoOn}
 use Rattle.nl_keep.proofs.Judgements.{absent, below_more, less_is}
 use Rattle.nl_keep.proofs.ReadRefusals.{memory_alone}
@@ -360,33 +359,3 @@ last_refused earlier wanted cost e Old Mid made refused w means =
     let a = made.leads w means in
     inr (inr (subst (λ (cs : List (ℕ × Copy)). RefusesSnapshot (greatest (numbers cs)) e) a.2.alone.copies
     (refused a.0 a.1)))
-
--- a path of a tree is that of an entry
-any_at : (P : Path → Type 0) (tree : Tree) (path : Path) → IsIn tree path → P path → Any (λ e. P e.0) tree
-any_at P [] path there holds = absurd (true≢false (sym there))
-any_at P (e ∷ tree) path there holds =
-    elim (same_path path e.0) as (λ b.
-    same_path path e.0 ≡ b → is_some (cond b (Some e.1) (lookup tree path)) ≡ true → Any (λ x. P x.0) (e ∷ tree)) [
-      | true ↦ λ same _. (0, e, omega arith, refl, subst P (same_path-equal path e.0 same) holds)
-      | false ↦ λ _ later.
-          let rest = any_at P tree path later holds in (suc rest.0, rest.1, omega (arith, rest.2), rest.3, rest.4)
-    ] refl there
-
--- where the current tree isn't read
-pub current_refused : (wanted : Tree) (w : World) (e : FolderError) (told : KeepError) → RefusesTree w.tree e
-    → told ≡ passed_on e → RefusesStore wanted w told
-current_refused wanted w e told (inl memory) is =
-    inr (inr (subst (RefusesSnapshot (latest w)) (sym (is ∙ ap passed_on memory)) tt))
-current_refused wanted w e told (inr long) is =
-    inr (inl (subst (RefusesEntries w.tree) (sym (is ∙ ap passed_on long.0))
-    (inl (any_at IsTooLong w.tree long.1.0 long.1.1 long.1.2))))
-
--- and where it was read, what is stored over it is refused of the world before
-pub stored_refused : (wanted earlier : Tree) (e : KeepError) (Old Mid : Meaning)
-    → ((w : World) → Old w → earlier ≡ w.tree) → LeadsTo Stays Old Mid
-    → ((w : World) → Mid w → w.tree ≡ earlier → RefusesStore wanted w e)
-    → (w : World) → Old w → RefusesStore wanted w e
-stored_refused wanted earlier e Old Mid reads stays refused w means =
-    let a = stays w means in
-    subst (λ (x : World). RefusesStore wanted x e) a.2
-    (refused a.0 a.1 (ap (λ (x : World). x.tree) a.2 ∙ sym (reads w means)))

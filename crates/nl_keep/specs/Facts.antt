@@ -1,4 +1,5 @@
 -- Facts about the definitions, for proofs of other crates.
 pub mod Staying
 pub mod StoredTrees
-pub mod Keeping
+pub mod Tidied
+pub mod Refusals

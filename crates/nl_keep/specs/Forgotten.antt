@@ -35,6 +35,11 @@ with_plain n w = record w { copies = copies_with_mode n Plain w.copies }
 abbrev pub MakesPlain : ℕ → World → World → Type 0
 MakesPlain n old new = IsKept n old × (new ≡ with_plain n old)
 
+-- checkpoints are, one after another
+abbrev pub MakesAllPlain : List ℕ → World → World → Type 0
+MakesAllPlain [] old new = new ≡ old
+MakesAllPlain (n ∷ numbers) old new = (mid : World) × MakesPlain n old mid × MakesAllPlain numbers mid new
+
 -- these are the rows from number n on, and the world stays
 abbrev pub TellsFrom : ℕ → List Row → World → World → Type 0
 TellsFrom n told old new = (told ≡ filter (λ row. nat_le n row.number) (rows old)) × (new ≡ old)

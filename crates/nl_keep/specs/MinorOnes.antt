@@ -3,11 +3,14 @@ use Rattle.std.specs.Prelude.{◌≡◌, ◌-◌, ◌&&◌, Bool, not, List, len
 use Rattle.std.specs.List.{filter}
 use Rattle.nl_types.specs.declared.row.Row.{Row}
 use Rattle.nl_types.specs.Plain.Rows.{is_snapshot, number_of}
-use Rattle.nl_types.specs.Plain.Worlds.{World, rows, take_out}
+use Rattle.nl_types.specs.Plain.Worlds.{World, Copy, rows, take_out}
 
--- nobody made a snapshot of it either
+-- the volume made it by itself, and nobody made a snapshot of it
 abbrev pub is_plain_minor : Row → Bool
 is_plain_minor row = not (is_snapshot row.mode) && row.minor
+
+abbrev pub is_plain_minor_copy : Copy → Bool
+is_plain_minor_copy copy = not (is_snapshot copy.mode) && copy.minor
 
 -- the numbers of such ones
 abbrev pub minor_ones : List Row → List ℕ

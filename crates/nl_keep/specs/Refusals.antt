@@ -1,4 +1,4 @@
--- When storing and forgetting are refused.
+-- When storing, reading and forgetting are refused.
 use Rattle.std.specs.Prelude.{◌≡◌, ◌⊎◌, ℕ, ◌+◌, ◌<◌, ◌≤◌, Any, IsTrue, List, [], ◌∷◌, length, None, false}
 use Rattle.std.specs.List.{list_all}
 use Rattle.nl_types.specs.declared.error.VolError.{VolError}
@@ -11,7 +11,7 @@ use Rattle.nl_types.specs.Plain.Trees.{Tree, IsTree}
 use Rattle.nl_types.specs.Plain.Worlds.{World, copy_at, is_mounted, latest}
 use Rattle.nl_folders.specs.declared.folder.FolderError.{FolderError}
 use Rattle.nl_folders.specs.declared.folder.FolderError.TheVariants as folder
-use Rattle.nl_folders.specs.Refusals.{IsTooLong}
+use Rattle.nl_folders.specs.Refusals.{IsTooLong, RefusesPath}
 use Rattle.nl_keep.specs.declared.storing.KeepError.{KeepError}
 use Rattle.nl_keep.specs.declared.storing.KeepError.TheVariants.{Disordered, Refused}
 use Rattle.nl_keep.specs.Forgotten.{ForgetsOne}
@@ -49,6 +49,12 @@ abbrev pub passed_on : FolderError → KeepError
 passed_on (folder.Refused error) = Refused error
 passed_on folder.Unread = Disordered
 passed_on folder.Disordered = Disordered
+
+-- ---- reading
+
+-- the tree answers for the file by this error, memory lacks, or no call can name the path
+abbrev pub RefusesFile : Path → VolError → FolderError → Type 0
+RefusesFile path error e = (e ≡ folder.Refused error) ⊎ RefusesPath path e
 
 -- ---- forgetting
 

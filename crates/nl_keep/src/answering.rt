@@ -1,9 +1,13 @@
 //! What answers questions about a tree, to be read by paths.
-ghost use Rattle.std.specs.Prelude.{◌≡◌, ℕ, List, IfErr, IfOk, Ok};
+ghost use Rattle.std.specs.Prelude.{◌≡◌, ℕ, true, List, Err, IfErr, IfOk, Ok};
+ghost use Rattle.std.specs.List.{list_all};
+ghost use Rattle.nl_types.specs.declared.error.VolError.{VolError};
 ghost use Rattle.nl_types.specs.declared.reply.Named.{Named};
 ghost use Rattle.nl_types.specs.Plain.Calls.{IsReadReply, file_at, list, reply_to};
+ghost use Rattle.nl_types.specs.Plain.Paths.{is_name};
 ghost use Rattle.nl_types.specs.Plain.Trees.{Tree, IsTree};
 ghost use Rattle.nl_folders.specs.Refusals.{RefusesPath};
+ghost use Rattle.nl_keep.specs.Refusals.{RefusesFile};
 
 use crate::asking::{bytes_of, listing_of, names_of, whole_file};
 use nl_folders::{FolderError, Name};
@@ -26,8 +30,8 @@ pub trait Answering {
 /// The names in a directory of the tree, with their kinds, ascending by bytes.
 ///
 /// # Errors
-/// As the answer, and by `BadName` where a name of the path may not stand in one. Of a directory of the tree by
-/// `Memory` alone, or by `BadPath` where no call can name it.
+/// As the answer, and by `BadName` where a name of the path may not stand in one. Of a directory of the tree
+/// by `Memory` alone, or by `BadPath` where no call can name it.
 pub fn names_answered<A: Answering>(
     alloc: Global,
     answering: &A,
@@ -46,7 +50,7 @@ pub fn names_answered<A: Answering>(
 /// All bytes of a file of the tree.
 ///
 /// # Errors
-/// As those of `names_answered`.
+/// As those of `names_answered`. Where no file stands at a path of such names, as the tree says, too.
 pub fn bytes_answered<A: Answering>(
     alloc: Global,
     answering: &A,
@@ -56,6 +60,9 @@ pub fn bytes_answered<A: Answering>(
         → file_at tree path.now ≡ Ok bytes) }
     ensures refused { IfErr result (λ e. (tree : Tree) (bytes : List ℕ) → A.answers answering.now tree
         → file_at tree path.now ≡ Ok bytes → RefusesPath path.now e) }
+    ensures missing { IfErr result (λ e. (tree : Tree) (error : VolError) → A.answers answering.now tree
+        → list_all is_name path.now ≡ true → file_at tree path.now ≡ Err error
+        → RefusesFile path.now error e) }
 {
     let ask = whole_file(alloc, path)?;
     let reply = answering.answer(&ask);

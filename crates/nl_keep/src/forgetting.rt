@@ -2,7 +2,7 @@
 ghost use Rattle.std.specs.Prelude.{◌≡◌, ◌&&◌, if◌then◌else◌, nat_lt, not, true, false, IfErr, IfOk, OnErr, OnOk};
 ghost use Rattle.nl_types.specs.Plain.NumberLists.{is_one_of};
 ghost use Rattle.nl_types.specs.Plain.Worlds.{World};
-ghost use Rattle.nl_keep.specs.Forgotten.{Forgets, ForgetsOne, MakesPlain, TakesRange, TellsFrom, run_end};
+ghost use Rattle.nl_keep.specs.Forgotten.{Forgets, ForgetsOne, MakesAllPlain, MakesPlain, TakesRange, TellsFrom, run_end};
 ghost use Rattle.nl_keep.specs.Private.Refused.{RefusesRange};
 ghost use Rattle.nl_keep.specs.Refusals.{RefusesToForget, RefusesToForgetAll};
 ghost use Rattle.nl_keep.specs.Volumes.{LeadsTo};
@@ -52,6 +52,23 @@ fn make_plain<V: Volume>(volume: &mut V, number: CheckpointNumber) -> Result<(),
     ensures refused { IfErr result (λ e. (w : World) → V.means volume.old w → RefusesToForget number w e) }
 {
     drop(applied(volume, Event::ChangeMode(number, Mode::Plain))?);
+    Ok(())
+}
+
+/// Makes checkpoints plain, one after another. Where it is refused, the first ones may be.
+///
+/// # Errors
+/// `NoCheckpoint` where one isn't kept, `Mounted` where a mount shows it, `Memory`.
+pub fn make_all_plain<V: Volume>(
+    volume: &mut V,
+    numbers: &[CheckpointNumber],
+) -> Result<(), VolError>
+    ensures plain { OnOk result (LeadsTo (MakesAllPlain numbers.now)
+        (V.means volume.old) (V.means volume.new)) }
+{
+    for one in numbers {
+        make_plain(volume, *one)?;
+    }
     Ok(())
 }
 

@@ -1,5 +1,5 @@
 //! What storing, reading and forgetting come to, as contracts of functions that do nothing.
-ghost use Rattle.nl_keep.specs.Lasting.{BlockEventsKeepAll, ForgetsChangeCopiesAlone, ForgetsKeepOthers, ForgottenAreGone, KeptTreesLast, MinorRemovalsKeepOwn, StoredTreesComeBack, StoresKeepCopies};
+ghost use Rattle.nl_keep.specs.Lasting.{ForgetsChangeCopiesAlone, ForgetsKeepOthers, ForgottenAreEarlier, ForgottenAreGone, KeptTreesLast, MinorRemovalsOnlyTidy, StoredTreesComeBack, StoresKeepCopies, TidyingEventsOnlyTidy, TidyingGoesOn};
 
 use nl_types::laws;
 
@@ -17,20 +17,26 @@ pub fn stores_keep_copies()
     ensures { StoresKeepCopies }
 {}
 
-/// Checkpoints that are forgotten are gone, and each other one is kept as it was, but for minor ones. Nothing
-/// but checkpoints changes.
+/// Checkpoints that are forgotten are gone, and each other one is kept as it was, but for plain minor ones.
+/// The latest one stays the latest. Nothing but checkpoints changes.
 pub fn forgets_keep_others()
     ensures alone { ForgetsChangeCopiesAlone }
     ensures gone { ForgottenAreGone }
+    ensures earlier { ForgottenAreEarlier }
     ensures others { ForgetsKeepOthers }
 {}
 
-/// Moves, retirements and resizes keep each checkpoint as it was.
-pub fn block_events_keep_all()
-    ensures { BlockEventsKeepAll }
+/// What doing nothing, or tidying twice, comes to is tidying.
+pub fn tidying_goes_on()
+    ensures { TidyingGoesOn }
 {}
 
-/// Where minor checkpoints are removed, each other one is kept as it was.
-pub fn minor_removals_keep_own()
-    ensures { MinorRemovalsKeepOwn }
+/// Moves at a moment, retirements, resizes, and expiries that protect all only tidy.
+pub fn tidying_events_only_tidy()
+    ensures { TidyingEventsOnlyTidy }
+{}
+
+/// Where plain minor checkpoints but the latest one are removed, that only tidies.
+pub fn minor_removals_only_tidy()
+    ensures { MinorRemovalsOnlyTidy }
 {}

@@ -16,8 +16,8 @@ mod volume;
 
 pub use answering::{Answering, bytes_answered, names_answered};
 pub use checkpoint_folder::CheckpointFolder;
-pub use forgetting::forget;
-pub use storing::{KeepError, Stored, store, store_over};
+pub use forgetting::{forget, make_all_plain};
+pub use storing::{KeepError, Stored, store_over};
 pub use tidying::remove_minor;
 pub use trees::{checkpoint_tree, current_tree, judge_kept};
 pub use volume::Volume;

@@ -3,12 +3,11 @@ ghost use Rattle.std.specs.Prelude.{◌≡◌, IfErr, IfOk};
 ghost use Rattle.nl_types.specs.Plain.Worlds.{World, latest};
 ghost use Rattle.nl_keep.specs.Made.{AreMadeBy};
 ghost use Rattle.nl_keep.specs.Refusals.{RefusesSnapshot, RefusesStore};
-ghost use Rattle.nl_keep.specs.Stored.{StoresOver, StoresTree, TakesSnapshot};
+ghost use Rattle.nl_keep.specs.Stored.{StoresOver, TakesSnapshot};
 ghost use Rattle.nl_keep.specs.Volumes.{LeadsTo};
 
 use crate::judging::judge_tree;
 use crate::making::make;
-use crate::trees::current_tree;
 use crate::volume::{Volume, applied};
 use nl_folders::{FolderError, Path, Tree};
 use nl_types::{Answer, CheckpointNumber, Event, Mode, Object, VolError};
@@ -93,9 +92,11 @@ fn snapshot<V: Volume>(volume: &mut V, moment: u64) -> Result<CheckpointNumber, 
     }
 }
 
-/// Stores a tree as `store` does, where the current tree was read already. It becomes the one that is handed
-/// in, by calls on the paths at which these differ, and of a file only blocks that differ are written. If
-/// `earlier` isn't the current tree, some call may be refused, or another tree be stored.
+/// Stores a tree as the next snapshot, with the moment in whole seconds, where the current tree was read
+/// already. It becomes the one that is handed in, by calls on the paths at which these differ, and of a file
+/// only blocks that differ are written. If `earlier` isn't the current tree, some call may be refused, or
+/// another tree be stored. Where it is refused, the volume is gone, so that nobody closes one that is half
+/// made.
 ///
 /// # Errors
 /// Before any call: `Disordered` where the entries are no tree; `BadName`, `BadPath` or `TooBig` where a name
@@ -128,29 +129,4 @@ pub fn store_over<V: Volume>(
         bytes: cost.bytes,
     };
     Ok((stored, volume))
-}
-
-/// Stores a tree as the next snapshot, with the moment in whole seconds. The current tree is read, and made the
-/// one that is handed in. Where it is refused, the volume is gone, so that nobody closes one that is half made.
-///
-/// # Errors
-/// Those of `current_tree` and `store_over`.
-pub fn store<V: Volume>(
-    alloc: Global,
-    volume: V,
-    wanted: &[(Path, Object)],
-    moment: u64,
-) -> Result<(Stored, V), KeepError>
-    ensures earlier { IfOk result (λ stored. (w : World) → V.means volume w
-        → stored.0.earlier ≡ w.tree) }
-    ensures made { IfOk result (λ stored.
-        AreMadeBy stored.0.earlier wanted.now stored.0.calls stored.0.bytes) }
-    ensures stored { IfOk result (λ stored.
-        LeadsTo (StoresTree moment stored.0.number wanted.now)
-        (V.means volume) (V.means stored.1)) }
-    ensures refused { IfErr result (λ e. (w : World) → V.means volume w → RefusesStore wanted.now w e) }
-{
-    let (earlier, volume) = current_tree(alloc, volume)?;
-    let done = store_over(alloc, volume, earlier, wanted, moment)?;
-    Ok(done)
 }

@@ -1,11 +1,11 @@
 -- How entries are judged that calls are to make a tree of.
-use Rattle.std.specs.Prelude.{ℕ, ◌+◌, ◌-◌, ◌==◌, Bool, true, false, ◌&&◌, nat_le, nat_lt, [], ◌∷◌, length}
+use Rattle.std.specs.Prelude.{ℕ, ◌-◌, ◌==◌, Bool, true, false, ◌&&◌, nat_le, nat_lt, [], ◌∷◌, length}
 use Rattle.std.specs.List.{list_all}
 use Rattle.std.specs.Ordering.{is_lt}
 use Rattle.nl_types.specs.declared.reply.Object.{Object}
 use Rattle.nl_types.specs.declared.reply.Object.TheVariants.{Dir, File}
 use Rattle.nl_types.specs.Plain.Calls.{is_dir}
-use Rattle.nl_types.specs.Plain.Limits.{file_limit, path_length_limit, path_limit}
+use Rattle.nl_types.specs.Plain.Limits.{file_limit, path_length_limit}
 use Rattle.nl_types.specs.Plain.Paths.{Path, is_name, name_cmp, same_name}
 use Rattle.nl_types.specs.Plain.Trees.{Tree}
 
@@ -45,6 +45,3 @@ all_follow e (f ∷ entries) = follows (is_dir e.1) e.0 f.0 && all_follow f entr
 abbrev pub is_rooted : Tree → Bool
 is_rooted [] = false
 is_rooted (e ∷ entries) = length e.0 == 0 && is_dir e.1 && all_follow e entries
-
-abbrev pub is_nameable : Tree → Bool
-is_nameable tree = is_rooted tree && list_all is_entry tree && nat_le (length tree) (path_limit + 1)
