@@ -1,11 +1,10 @@
 -- What checkpoints show, and which of them show a change.
-use Rattle.std.proofs.Common.{◌≡◌, ℕ, Bor, Bool, true, false, cond, ◌||◌, List, [], ◌∷◌, ◌++◌, Option, Some, None, refl, sym, ap, ◌∙◌, subst, is_some, true≢false, eq-eqb}
+use Rattle.std.proofs.Common.{◌≡◌, ℕ, Bor, Bool, true, false, cond, ◌||◌, List, [], ◌∷◌, Option, Some, None, refl, sym, ap, ◌∙◌, subst, is_some, true≢false, eq-eqb}
 use Rattle.std.specs.Prelude.{◌==◌, option_and_then}
 use Rattle.std.specs.Option.{option_copied}
-use Rattle.std.specs.FinMap.{find, is_sorted}
+use Rattle.std.specs.FinMap.{find}
 use Rattle.std.specs.Str.{bytes_eq}
 use Rattle.std.proofs.lemmas.Slice.Eq.{bytes_eq-Decides}
-use Rattle.nl_types.specs.Plain.NumberLists.{is_one_of}
 use Rattle.nl_types.specs.Plain.Paths.{Path, path_cmp, same_path, is_within}
 use Rattle.nl_types.specs.Plain.Trees.{Tree, IsTree}
 use Rattle.nl_types.specs.Plain.Worlds.{World, Copy, IsWorld, copy_at}
@@ -16,11 +15,11 @@ use Rattle.nl_manifests.specs.declared.comparing.HostDifference.{HostDifference}
 use Rattle.nl_manifests.specs.declared.host_tree.HostObject.TheVariants.{Directory, File, Link}
 use Rattle.nl_manifests.specs.declared.host_tree.HostObject.{HostObject}
 use Rattle.nl_manifests.specs.declared.host_tree.HostEntry.{HostEntry}
-use Rattle.nl_manifests.specs.HostDifferences.{HostDifferences, HostDifferencesAreExact, are_alike, differences_by, have_other_bytes, host_difference_of, host_differences, object_difference, or_changed, told_by}
+use Rattle.nl_manifests.specs.HostDifferences.{HostDifferences, HostDifferencesAreExact, are_alike, differences_by, have_other_bytes, host_difference_of, host_differences, object_difference, told_by}
 use Rattle.nl_manifests.specs.HostTrees.{HostTree, Shows, shown_at}
 use Rattle.nl_manifests.specs.Unread.{DifferencesNeedNoBytes, unread}
 use Rattle.nl_keep_pen.specs.Compared.{DifferBy}
-use Rattle.nl_keep_pen.specs.History.{AgreeBelow, DifferBelow, IsChange, any_within, difference_in, shown_in}
+use Rattle.nl_keep_pen.specs.History.{AgreeBelow, IsChange, any_within, difference_in, shown_in}
 use Rattle.nl_pins.specs.Trees.{without_pins}
 use Rattle.nl_keep_pen.specs.Facts.UnreadTrees.{unread_is_tree}
 use Rattle.nl_keep_pen.proofs.FilledTrees.{is_shown, whole_shown}

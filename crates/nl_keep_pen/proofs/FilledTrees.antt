@@ -1,22 +1,17 @@
 -- What a tree shows, by what it shows without the bytes of its files.
-use Rattle.std.proofs.Common.{◌≡◌, ℕ, Bool, true, false, cond, ◌&&◌, List, [], ◌∷◌, ◌++◌, map, Option, Some, None, refl, sym, ap, ◌∙◌, is_some}
-use Rattle.std.specs.Prelude.{option_and_then}
+use Rattle.std.proofs.Common.{◌≡◌, ℕ, Bool, true, false, cond, ◌&&◌, List, [], ◌∷◌, ◌++◌, Option, Some, None, refl, ap, ◌∙◌, is_some}
 use Rattle.std.specs.Option.{option_map}
-use Rattle.std.specs.FinMap.{find, is_sorted}
 use Rattle.nl_types.specs.declared.reply.Object.{Object}
 use Rattle.nl_types.specs.declared.reply.Object.TheVariants.{Dir, File}
-use Rattle.nl_types.specs.Plain.Paths.{Name, Path, is_name, path_cmp, same_name}
+use Rattle.nl_types.specs.Plain.Paths.{Name, Path, same_name}
 use Rattle.nl_types.specs.Plain.Trees.{Tree, lookup}
 use Rattle.nl_types.specs.Facts.Lookups.{same_name-itself}
-use Rattle.nl_manifests.specs.declared.attributes.Attributes.{Attributes}
-use Rattle.nl_manifests.specs.declared.manifest.LineKind.{LineKind}
-use Rattle.nl_manifests.specs.declared.manifest.LineKind.TheVariants as kind
 use Rattle.nl_manifests.specs.declared.manifest.Line.{Line}
 use Rattle.nl_manifests.specs.declared.manifest.Manifest.{Manifest}
 use Rattle.nl_manifests.specs.declared.host_tree.HostObject.{HostObject}
 use Rattle.nl_manifests.specs.declared.host_tree.HostObject.TheVariants as host
 use Rattle.nl_manifests.specs.declared.host_tree.HostEntry.{HostEntry}
-use Rattle.nl_manifests.specs.HostTrees.{HostTree, Shows, last_name, line_in, manifest_above, manifest_at, manifest_in_object, manifest_name, parted, shown_at, shown_file, shown_in, told_of_link}
+use Rattle.nl_manifests.specs.HostTrees.{HostTree, Shows, last_name, line_in, manifest_above, manifest_at, manifest_in_object, manifest_name, parted, shown_at, shown_file, shown_in}
 use Rattle.nl_manifests.specs.Unread.{unread, unread_at, unread_object}
 use Rattle.nl_keep_pen.specs.Facts.UnreadTrees.{all_made, found_made, found_unread, sorted_made}
 use Rattle.nl_keep_pen.proofs.UnreadAnswers.{last_below}

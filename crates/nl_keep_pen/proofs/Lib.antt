@@ -7,3 +7,5 @@ pub mod FilledTrees
 pub mod Changes
 pub mod ChangeLists
 mod RoundSteps
+pub mod Listed
+pub mod PinsRead

@@ -1,21 +1,17 @@
 -- Trees without the file of pins.
-use Rattle.std.proofs.Common.{◌≡◌, ℕ, ◌+◌, ◌≤◌, Bool, true, false, cond, not, List, [], ◌∷◌, ◌++◌, length, Option, Some, None, refl, sym, ap, ◌∙◌, subst, is_some, true≢false, arith}
+use Rattle.std.proofs.Common.{◌≡◌, ◌≤◌, Bool, true, false, cond, not, List, [], ◌∷◌, ◌++◌, length, Option, Some, None, refl, sym, ap, ◌∙◌, is_some, true≢false, arith}
 use Rattle.std.proofs.lemmas.List.Filters.{length-filter_both}
-use Rattle.std.specs.List.{filter}
-use Rattle.std.specs.Prelude.{IsTrue}
 use Rattle.std.specs.FinMap.{find, is_sorted}
 use Rattle.std.specs.FinMap.Entries.{find-where_key, is_sorted-where_key}
 use Rattle.nl_types.specs.declared.reply.Object.{Object}
 use Rattle.nl_types.specs.declared.reply.Object.TheVariants.{Dir, File}
-use Rattle.nl_types.specs.Plain.Limits.{file_limit, path_limit}
 use Rattle.nl_types.specs.Plain.Paths.{Name, Path, path_cmp}
 use Rattle.nl_types.specs.Plain.Trees.{Tree, IsIn, IsTree, lookup}
 use Rattle.nl_types.specs.Facts.Booleans.{holds, is_true}
 use Rattle.nl_types.specs.Facts.TakenOut.{turned}
 use Rattle.nl_types.specs.Facts.TreeLaws.{paths_equal}
 use Rattle.nl_folders.specs.Differences.{DifferencesAreExact, difference_of, differences}
-use Rattle.nl_folders.specs.declared.differences.Difference.{Difference}
-use Rattle.nl_manifests.specs.HostDifferences.{Rewrites, is_of_bytes, told_by}
+use Rattle.nl_manifests.specs.HostDifferences.{is_of_bytes, told_by}
 use Rattle.nl_manifests.specs.Unread.{unread, unread_at}
 use Rattle.nl_pins.specs.Trees.{is_of_pins, without_pins}
 

@@ -5,8 +5,8 @@ use Rattle.nl_types.specs.Plain.Worlds.{World}
 use Rattle.nl_image.specs.Parts.{with_present_mark}
 use Rattle.nl_commit.specs.Layout.{IsPen, Layout, MeansWorld}
 use Rattle.nl_core.specs.PenImages.{CanBeClosed, IsPenImage}
-use Rattle.nl_keep.specs.Forgotten.{Forgets}
-use Rattle.nl_keep.specs.Lasting.{KeepsOwn}
+use Rattle.nl_keep.specs.Forgotten.{Forgets, MakesAllPlain}
+use Rattle.nl_keep.specs.Lasting.{OnlyTidies}
 use Rattle.nl_keep.specs.Stored.{KeepsTree, StoresTree}
 
 -- the bytes are the image of a closed pen that means the world
@@ -29,10 +29,10 @@ HasCurrent tree image = (w : World) → ImageMeans (with_present_mark image) w �
 abbrev pub ReadsFromImage : ℕ → Tree → List ℕ → Type 0
 ReadsFromImage n tree image = (w : World) → ImageMeans (with_present_mark image) w → KeepsTree n tree w
 
--- the tree is stored as snapshot n, where room may have been made for it first
+-- the tree is stored as snapshot n, where the volume may have been tidied first, to make room for it
 pub record StoresPrepared (moment n : ℕ) (tree : Tree) (old new : World) : Type 0 where
   pub ready : World
-  pub keeps : KeepsOwn old ready
+  pub tidies : OnlyTidies moment old ready
   pub stores : StoresTree moment n tree ready new
 
 -- of whatever world the old image was made, the new one is of that world with the tree stored
@@ -42,10 +42,22 @@ StoresInImage moment n tree old new =
     → (before : World) × (after : World) × SameBut w before × StoresPrepared moment n tree before after
     × ImageMeans new after
 
--- and here it is of that world with the checkpoints forgotten, behind which came events that keep all others
--- that the volume didn't make by itself
-abbrev pub ForgetsInImage : List ℕ → (old new : List ℕ) → Type 0
-ForgetsInImage numbers old new =
+-- the checkpoints are forgotten, and what they leave is tidied
+pub record ForgetsAndTidies (moment : ℕ) (numbers : List ℕ) (old new : World) : Type 0 where
+  pub left : World
+  pub forgets : Forgets numbers old left
+  pub tidies : OnlyTidies moment left new
+
+-- and here it is of that world with the checkpoints forgotten
+abbrev pub ForgetsInImage : (moment : ℕ) → List ℕ → (old new : List ℕ) → Type 0
+ForgetsInImage moment numbers old new =
     (w : World) → ImageMeans (with_present_mark old) w
-    → (before : World) × (left : World) × (after : World) × SameBut w before
-    × Forgets numbers before left × KeepsOwn left after × ImageMeans new after
+    → (before : World) × (after : World) × SameBut w before × ForgetsAndTidies moment numbers before after
+    × ImageMeans new after
+
+-- and here it is of that world with the checkpoints made plain
+abbrev pub PlainsInImage : List ℕ → (old new : List ℕ) → Type 0
+PlainsInImage numbers old new =
+    (w : World) → ImageMeans (with_present_mark old) w
+    → (before : World) × (after : World) × SameBut w before × MakesAllPlain numbers before after
+    × ImageMeans new after

@@ -2,6 +2,8 @@ pub mod Compared
 pub mod Folders
 pub mod History
 pub mod Images
+pub mod Opened
+pub mod Pins
 pub mod Runs
 pub mod UnreadTrees
 pub mod Capacities

@@ -1,19 +1,21 @@
 -- What is kept from one image to the next, over many runs.
-use Rattle.std.specs.Prelude.{◌≡◌, ℕ, false, List, [], ◌∷◌, Some}
+use Rattle.std.specs.Prelude.{◌≡◌, ℕ, max, true, false, List, [], ◌∷◌, None, Some}
 use Rattle.nl_types.specs.Plain.NumberLists.{is_one_of}
 use Rattle.nl_types.specs.Plain.Trees.{Tree}
-use Rattle.nl_types.specs.Plain.Worlds.{World, Copy, copy_at}
+use Rattle.nl_types.specs.Plain.Worlds.{World, Copy, copy_at, latest_stamp}
 use Rattle.nl_image.specs.Parts.{with_present_mark}
+use Rattle.nl_keep.specs.MinorOnes.{is_plain_minor_copy}
+use Rattle.nl_keep.specs.Stored.{snapshot_of}
 use Rattle.nl_keep_pen.specs.Images.{ForgetsInImage, ImageMeans, ReadsFromImage, StoresInImage}
 
--- checkpoint n is kept with this tree, and the volume didn't make it by itself
+-- checkpoint n is kept with this tree, and it is no plain minor one
 pub record IsStillKept (n : ℕ) (tree : Tree) (w : World) : Type 0 where
   pub copy : Copy
   pub kept : copy_at w n ≡ Some copy
   pub has : copy.tree ≡ tree
-  pub own : copy.minor ≡ false
+  pub own : is_plain_minor_copy copy ≡ false
 
--- the new image is made of the old one by a run that keeps checkpoint n, where it is no minor one
+-- the new image is made of the old one by a run that keeps checkpoint n, where it is no plain minor one
 abbrev pub KeepsThrough : ℕ → (old new : List ℕ) → Type 0
 KeepsThrough n old new =
     (w : World) → ImageMeans (with_present_mark old) w
@@ -40,7 +42,7 @@ BackupsKeepThrough =
 -- and so does a run that forgets others
 abbrev pub ForgetsKeepThrough : Type 0
 ForgetsKeepThrough =
-    (numbers : List ℕ) (n : ℕ) (old new : List ℕ) → ForgetsInImage numbers old new
+    (moment n : ℕ) (numbers : List ℕ) (old new : List ℕ) → ForgetsInImage moment numbers old new
     → is_one_of numbers n ≡ false → KeepsThrough n old new
 
 -- what was backed up as checkpoint n is what is restored of n, however many runs that keep it came between
@@ -49,3 +51,18 @@ BackupsComeBack =
     (moment n : ℕ) (tree read : Tree) (old first last : List ℕ) (images : List (List ℕ)) (w : World)
     → ImageMeans (with_present_mark old) w → StoresInImage moment n tree old first
     → KeepThrough n first images last → ReadsFromImage n read last → read ≡ tree
+
+-- what was forgotten is in no world that the new image means
+abbrev pub ForgottenAreGone : Type 0
+ForgottenAreGone =
+    (moment n : ℕ) (numbers : List ℕ) (old new : List ℕ) (w after : World)
+    → ForgetsInImage moment numbers old new → ImageMeans (with_present_mark old) w
+    → is_one_of numbers n ≡ true → ImageMeans new after → copy_at after n ≡ None
+
+-- what is stored is kept as a snapshot of the moment, or of the latest date that there was where that is
+-- later
+abbrev pub SnapshotsHaveTheMoment : Type 0
+SnapshotsHaveTheMoment =
+    (moment n : ℕ) (tree : Tree) (old new : List ℕ) (w after : World)
+    → StoresInImage moment n tree old new → ImageMeans (with_present_mark old) w → ImageMeans new after
+    → copy_at after n ≡ Some (snapshot_of tree (max moment (latest_stamp w)))

@@ -17,7 +17,7 @@ fn most_written(table: &SegTable) -> usize
 }
 
 /// How many segments of so many blocks a volume can have.
-pub fn most_segments(blocks: u32) -> u32
+pub(crate) fn most_segments(blocks: u32) -> u32
     ensures { result ≡ most_segments blocks }
 {
     (VOLUME_BLOCK_LIMIT / blocks.max(1)).min(SEGMENT_LIMIT)

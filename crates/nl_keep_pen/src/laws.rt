@@ -1,7 +1,7 @@
 //! What backups, restores and forgetting come to over many runs, as contracts of functions that do nothing.
 ghost use Rattle.nl_keep_pen.specs.Folders.{FoldersComeBack};
 ghost use Rattle.nl_keep_pen.specs.History.{ChangesAreOne};
-ghost use Rattle.nl_keep_pen.specs.Runs.{BackupsComeBack, BackupsKeepThrough, ForgetsKeepThrough, ImagesHaveThePresentMark};
+ghost use Rattle.nl_keep_pen.specs.Runs.{BackupsComeBack, BackupsKeepThrough, ForgetsKeepThrough, ForgottenAreGone, ImagesHaveThePresentMark, SnapshotsHaveTheMoment};
 
 /// The image of a closed pen has the present mark.
 pub fn images_have_the_present_mark()
@@ -17,6 +17,21 @@ pub fn runs_keep_checkpoints()
 {
     nl_keep::laws::stores_keep_copies();
     nl_keep::laws::forgets_keep_others();
+}
+
+/// What was forgotten is gone from the image that is made, whatever world that means.
+pub fn forgotten_are_gone()
+    ensures { ForgottenAreGone }
+{
+    nl_core::laws::pens_of_one_image_mean_one_world();
+    nl_keep::laws::forgets_keep_others();
+}
+
+/// A snapshot has the date of its moment, or the latest one that there was where that is later.
+pub fn snapshots_have_the_moment()
+    ensures { SnapshotsHaveTheMoment }
+{
+    nl_core::laws::pens_of_one_image_mean_one_world();
 }
 
 /// What was backed up is what is restored, however many runs that keep it came between: backups, and forgets

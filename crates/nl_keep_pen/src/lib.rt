@@ -1,28 +1,27 @@
-//! A pen as a volume that keeps trees, what is kept from one image to the next, and room in the volume for it:
-//! rounds of cleaning that keep all checkpoints but minor ones, and what is done before a backup.
+//! A pen as a volume that keeps trees, what is kept from one image to the next, and room in the volume for
+//! it: rounds of cleaning that keep all checkpoints but plain minor ones, and what is done before a backup.
 #![tactic(auto)]
 
 mod capacity;
 mod comparing;
 mod history;
-mod keeping;
 pub mod laws;
+mod opened;
+mod pins;
 mod room;
 mod rounds;
-mod tidying;
 mod unread;
 
-pub use capacity::{Capacity, most_segments};
-pub use comparing::{SameFiles, checkpoint_differences};
+pub use capacity::Capacity;
+pub use comparing::checkpoint_differences;
 pub use history::changed_at;
-pub use keeping::{backup_image, forget_image, format_image, restore_image};
 use nl_core::Pen;
 use nl_device::Device;
 use nl_keep::Volume;
 use nl_types::{Ask, CheckpointNumber, Event, Reply};
+pub use opened::{OpenedVolume, format_image};
 pub use room::{Effort, Room};
-pub use rounds::{Round, RoundIfShort};
-pub use tidying::{Preparing, Tidying};
+pub use rounds::Cleaning;
 pub use unread::{is_manifest_path, unread_tree};
 
 /// A pen, as a volume that keeps trees.

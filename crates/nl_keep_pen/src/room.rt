@@ -1,20 +1,22 @@
 //! Room in the volume for what a backup writes.
-ghost use Rattle.std.specs.Prelude.{◌≡◌, None, OnOk};
+ghost use Rattle.std.specs.Prelude.{◌≡◌, ◌⊎◌, ℕ, None, OnOk, Err, IfErr};
+ghost use Rattle.nl_types.specs.declared.error.VolError;
+ghost use Rattle.nl_types.specs.Plain.Limits.{is_geometry};
+ghost use Rattle.nl_commit.specs.CleaningEvents.{resized_by};
 ghost use Rattle.nl_commit.specs.Layout.{MeansWorld};
-ghost use Rattle.nl_keep.specs.Lasting.{KeepsOwn};
+ghost use Rattle.nl_keep.specs.Lasting.{OnlyTidies};
 ghost use Rattle.nl_keep.specs.Volumes.{LeadsTo};
 ghost use Rattle.nl_keep_pen.specs.declared.room.Effort;
 
 use crate::PenVolume;
 use crate::capacity::most_segments;
-use crate::rounds::Round;
-use crate::tidying::{Preparing, Tidying};
+use crate::rounds::{Cleaning, Round};
 use nl_core::Pen;
 use nl_device::Device;
 use nl_folders::{Path, all_differences, find_in};
 use nl_keep::laws;
 use nl_sufile::Sustat;
-use nl_types::{BLOCK_SIZE, Event, MAX_PAYLOAD, Object, Reply, VolError};
+use nl_types::{BLOCK_SIZE, Event, Geometry, MAX_PAYLOAD, Object, Reply, VolError};
 use std::alloc::{AllocError, Global};
 
 /// How many blocks of a log there are for each summary block, at most.
@@ -187,56 +189,57 @@ impl<'t> Room<'t> {
         }
     }
 
-    /// Grows the volume, where it isn't as great already.
+    /// Grows the volume, where it isn't as great already, or as great as one can be. Refused by `Memory`, and
+    /// by `Fault` where the device fails.
     fn grow<D: Device>(
         &mut self,
         pen: &mut Pen<D>,
         segments: u64,
         segment_bytes: u64,
     ) -> Result<(), VolError>
-        ensures { OnOk result (LeadsTo KeepsOwn (MeansWorld pen.old) (MeansWorld pen.new)) }
+        ensures tidies { OnOk result ((moment : ℕ)
+            → LeadsTo (OnlyTidies moment) (MeansWorld pen.old) (MeansWorld pen.new)) }
+        ensures moment { self.new.moment ≡ self.old.moment }
+        ensures refused { IfErr result (λ e. (e ≡ VolError.Fault) ⊎ (e ≡ VolError.Memory)) }
     {
         let present = pen.segments().sustat().segments as u64;
         let Ok(wanted) = u32::try_from(segments) else {
             return Ok(());
         };
-        if segments <= present {
+        if segments <= present || !can_have(pen, wanted) {
             return Ok(());
         }
-        match resize(pen, wanted) {
-            Ok(_) => {
-                let old = present.saturating_mul(segment_bytes);
-                self.grown = Some((old, segments.saturating_mul(segment_bytes)));
-                Ok(())
-            }
-            // It is as great as one can be.
-            Err(VolError::BadGeometry) => Ok(()),
-            Err(error) => Err(error),
-        }
+        drop(resize(pen, wanted)?);
+        let old = present.saturating_mul(segment_bytes);
+        self.grown = Some((old, segments.saturating_mul(segment_bytes)));
+        Ok(())
     }
 
-    /// A round of cleaning, where there was no room before.
+    /// A round of cleaning, where there was no room before. Refused by `Memory` alone.
     fn clean_again<D: Device>(&self, volume: &mut PenVolume<D>) -> Result<(), VolError>
-        ensures { OnOk result (LeadsTo KeepsOwn
+        ensures tidies { OnOk result (LeadsTo (OnlyTidies self.now.moment)
             (MeansWorld volume.old.pen) (MeansWorld volume.new.pen)) }
+        ensures refused { IfErr result (λ e. e ≡ VolError.Memory) }
     {
         if self.effort == Effort::Reckoned {
             return Ok(());
         }
-        let mut round = Round {
+        let round = Round {
             alloc: self.alloc,
             moment: self.moment,
         };
-        round.tidy(volume)
+        round.tidy_if_due(volume, Cleaning::Always)
     }
 
-    /// Grows the volume by what lacks for the tree.
+    /// Grows the volume by what lacks for the tree. Refused as `grow` is.
     fn make_room<D: Device>(
         &mut self,
         pen: &mut Pen<D>,
         earlier: &[(Path, Object)],
     ) -> Result<(), VolError>
-        ensures { OnOk result (LeadsTo KeepsOwn (MeansWorld pen.old) (MeansWorld pen.new)) }
+        ensures tidies { OnOk result ((moment : ℕ)
+            → LeadsTo (OnlyTidies moment) (MeansWorld pen.old) (MeansWorld pen.new)) }
+        ensures refused { IfErr result (λ e. (e ≡ VolError.Fault) ⊎ (e ≡ VolError.Memory)) }
     {
         let stat = pen.segments().sustat();
         let most_segments = u64::from(most_segments(pen.segments().blocks()));
@@ -248,23 +251,52 @@ impl<'t> Room<'t> {
         let segments = self.wanted_segments(stat, segment_bytes, lacking, most);
         self.grow(pen, segments, segment_bytes)
     }
-}
 
-/// Gives the volume so many segments.
-fn resize<D: Device>(pen: &mut Pen<D>, segments: u32) -> Reply
-    ensures { LeadsTo KeepsOwn (MeansWorld pen.old) (MeansWorld pen.new) }
-{
-    laws::block_events_keep_all();
-    pen.apply(&Event::Resize(segments))
-}
-
-impl Preparing for Room<'_> {
-    fn prepare<D: Device>(
+    /// Makes room at its moment. `earlier` is the current tree, which stays. Refused as `grow` is.
+    pub(crate) fn prepare<D: Device>(
         &mut self,
         volume: &mut PenVolume<D>,
         earlier: &[(Path, Object)],
-    ) -> Result<(), VolError> {
+    ) -> Result<(), VolError>
+        ensures tidies { OnOk result (LeadsTo (OnlyTidies self.old.moment)
+            (MeansWorld volume.old.pen) (MeansWorld volume.new.pen)) }
+        ensures refused { IfErr result (λ e. (e ≡ VolError.Fault) ⊎ (e ≡ VolError.Memory)) }
+    {
         self.clean_again(volume)?;
         self.make_room(&mut volume.pen, earlier)
     }
+
+    /// The same at a moment, which is the room's from then on.
+    pub(crate) fn prepare_at<D: Device>(
+        &mut self,
+        moment: u64,
+        volume: &mut PenVolume<D>,
+        earlier: &[(Path, Object)],
+    ) -> Result<(), VolError>
+        ensures tidies { OnOk result (LeadsTo (OnlyTidies moment)
+            (MeansWorld volume.old.pen) (MeansWorld volume.new.pen)) }
+        ensures refused { IfErr result (λ e. (e ≡ VolError.Fault) ⊎ (e ≡ VolError.Memory)) }
+    {
+        self.moment = moment;
+        self.prepare(volume, earlier)
+    }
+}
+
+/// Whether a volume can have so many segments.
+fn can_have<D: Device>(pen: &Pen<D>, segments: u32) -> bool
+    ensures { result ≡ is_geometry segments pen.now.store.segments.blocks }
+{
+    Geometry::new(segments, pen.segments().blocks()).is_ok()
+}
+
+/// Gives the volume so many segments. Refused by `Memory`, by `Fault` where the device fails, and where it
+/// can't have so many.
+fn resize<D: Device>(pen: &mut Pen<D>, segments: u32) -> Reply
+    ensures tidies { (moment : ℕ)
+        → LeadsTo (OnlyTidies moment) (MeansWorld pen.old) (MeansWorld pen.new) }
+    ensures refused { IfErr result (λ e. (e ≡ VolError.Fault) ⊎ (e ≡ VolError.Memory)
+        ⊎ (resized_by pen.old.store segments ≡ Err e)) }
+{
+    laws::tidying_events_only_tidy();
+    pen.apply(&Event::Resize(segments))
 }

@@ -1,12 +1,12 @@
-//! Rounds of cleaning that remove no checkpoint but minor ones.
-ghost use Rattle.std.specs.Prelude.{◌≡◌, ◌<◌, true, OnOk};
+//! Rounds of cleaning that remove no checkpoint but plain minor ones.
+ghost use Rattle.std.specs.Prelude.{◌≡◌, ℕ, ◌<◌, ◌≤◌, true, IfErr, OnOk};
+ghost use Rattle.nl_types.specs.declared.error.VolError;
 ghost use Rattle.nl_commit.specs.Layout.{MeansWorld};
-ghost use Rattle.nl_keep.specs.Lasting.{KeepsOwn};
+ghost use Rattle.nl_keep.specs.Lasting.{OnlyTidies};
 ghost use Rattle.nl_keep.specs.Volumes.{LeadsTo};
 ghost use Rattle.nl_cleaner.specs.Job.{steps_left};
 
 use crate::PenVolume;
-use crate::tidying::Tidying;
 use nl_cleaner::{Job, plan};
 use nl_core::Pen;
 use nl_device::Device;
@@ -31,7 +31,8 @@ fn configuration() -> Config
 
 /// The moment that a round goes by. At the last one of all, the period wouldn't protect what was made at 0.
 fn protecting(moment: u64) -> u64
-    ensures { result < 18446744073709551615 }
+    ensures protects { result < 18446744073709551615 }
+    ensures early { result ≤ moment }
 {
     if moment < u64::MAX {
         moment
@@ -43,13 +44,13 @@ fn protecting(moment: u64) -> u64
 /// Does the next event of a round, and tells whether there was one.
 fn go_on<D: Device>(job: &mut Job, pen: &mut Pen<D>) -> bool
     requires { job.old.moment < job.old.period }
-    ensures period { job.new.moment < job.new.period }
-    ensures keeps { LeadsTo KeepsOwn (MeansWorld pen.old) (MeansWorld pen.new) }
+    ensures moment { job.new.moment ≡ job.old.moment }
+    ensures period { job.new.period ≡ job.old.period }
+    ensures tidies { (moment : ℕ) → job.old.moment ≤ moment
+        → LeadsTo (OnlyTidies moment) (MeansWorld pen.old) (MeansWorld pen.new) }
     ensures fewer { result ≡ true → steps_left job.new pen.new < steps_left job.old pen.old }
 {
-    nl_keep::laws::block_events_keep_all();
-    nl_types::laws::boundaries_are_least_protected();
-    nl_types::laws::expiries_are_removals();
+    nl_keep::laws::tidying_events_only_tidy();
     match job.step(pen) {
         Some(_) => true,
         None => false,
@@ -59,14 +60,16 @@ fn go_on<D: Device>(job: &mut Job, pen: &mut Pen<D>) -> bool
 /// Does what is left of a round.
 fn do_round<D: Device>(job: &mut Job, pen: &mut Pen<D>)
     requires { job.old.moment < job.old.period }
-    ensures { LeadsTo KeepsOwn (MeansWorld pen.old) (MeansWorld pen.new) }
+    ensures { (moment : ℕ) → job.old.moment ≤ moment
+        → LeadsTo (OnlyTidies moment) (MeansWorld pen.old) (MeansWorld pen.new) }
 {
     while go_on(job, pen) {}
 }
 
 /// Plans a round and does it.
 fn clean<D: Device>(alloc: Global, pen: &mut Pen<D>, moment: u64) -> Result<(), VolError>
-    ensures { OnOk result (LeadsTo KeepsOwn (MeansWorld pen.old) (MeansWorld pen.new)) }
+    ensures tidies { OnOk result (LeadsTo (OnlyTidies moment) (MeansWorld pen.old) (MeansWorld pen.new)) }
+    ensures refused { IfErr result (λ e. e ≡ VolError.Memory) }
 {
     let config = configuration();
     let mut job = plan(alloc, pen, &config, Moment::new(protecting(moment)))?;
@@ -74,33 +77,58 @@ fn clean<D: Device>(alloc: Global, pen: &mut Pen<D>, moment: u64) -> Result<(), 
     Ok(())
 }
 
-/// A round of cleaning at a moment. The plain minor checkpoints but the latest one go before it: what they
-/// alone need is freed too.
+/// When a round of cleaning is done.
 #[derive(Clone, Copy)]
-pub struct Round {
-    pub alloc: Global,
-    pub moment: u64,
+pub enum Cleaning {
+    Always,
+    /// Where fewer than a quarter of the segments are clean.
+    IfShort,
 }
 
-impl Tidying for Round {
-    fn tidy<D: Device>(&mut self, volume: &mut PenVolume<D>) -> Result<(), VolError> {
-        nl_keep::laws::minor_removals_keep_own();
-        remove_minor(volume)?;
-        clean(self.alloc, &mut volume.pen, self.moment)
+/// Whether a round is to be done.
+fn is_due<D: Device>(cleaning: Cleaning, pen: &Pen<D>) -> bool {
+    match cleaning {
+        Cleaning::Always => true,
+        Cleaning::IfShort => {
+            let stat = pen.segments().sustat();
+            stat.clean < stat.segments / 4
+        }
     }
 }
 
-/// A round where fewer than a quarter of the segments are clean.
+/// A round of cleaning at a moment. The plain minor checkpoints but the latest one go before it: what they
+/// alone need is freed too.
 #[derive(Clone, Copy)]
-pub struct RoundIfShort {
-    pub round: Round,
+pub(crate) struct Round {
+    pub(crate) alloc: Global,
+    pub(crate) moment: u64,
 }
 
-impl Tidying for RoundIfShort {
-    fn tidy<D: Device>(&mut self, volume: &mut PenVolume<D>) -> Result<(), VolError> {
-        let stat = volume.pen.segments().sustat();
-        if stat.clean < stat.segments / 4 {
-            self.round.tidy(volume)
+impl Round {
+    /// Does it. Refused by `Memory` alone.
+    fn tidy<D: Device>(&self, volume: &mut PenVolume<D>) -> Result<(), VolError>
+        ensures tidies { OnOk result (LeadsTo (OnlyTidies self.now.moment)
+            (MeansWorld volume.old.pen) (MeansWorld volume.new.pen)) }
+        ensures refused { IfErr result (λ e. e ≡ VolError.Memory) }
+    {
+        nl_keep::laws::minor_removals_only_tidy();
+        volume.pen.means_a_world();
+        remove_minor(volume)?;
+        clean(self.alloc, &mut volume.pen, self.moment)
+    }
+
+    /// Does it where it is due. Refused by `Memory` alone.
+    pub(crate) fn tidy_if_due<D: Device>(
+        &self,
+        volume: &mut PenVolume<D>,
+        cleaning: Cleaning,
+    ) -> Result<(), VolError>
+        ensures tidies { OnOk result (LeadsTo (OnlyTidies self.now.moment)
+            (MeansWorld volume.old.pen) (MeansWorld volume.new.pen)) }
+        ensures refused { IfErr result (λ e. e ≡ VolError.Memory) }
+    {
+        if is_due(cleaning, &volume.pen) {
+            self.tidy(volume)
         } else {
             Ok(())
         }
