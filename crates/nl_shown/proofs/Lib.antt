@@ -1,0 +1,4 @@
+mod Apart
+pub mod Insertions
+pub mod RevertedTrees
+pub mod Roots

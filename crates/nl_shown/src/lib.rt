@@ -1,0 +1,13 @@
+//! What is kept of a folder of the host, in a tree that also has pins; and what such a tree shows.
+#![tactic(auto)]
+
+mod keeping;
+pub mod laws;
+mod parts;
+mod reverting;
+mod showing;
+
+pub use keeping::kept_tree;
+pub use parts::part_at;
+pub use reverting::{RevertError, reverted};
+pub use showing::shown_tree;
