@@ -1,0 +1,5 @@
+pub mod Again
+pub mod ComeBack
+pub mod Outcomes
+pub mod PassedOn
+pub mod Saved

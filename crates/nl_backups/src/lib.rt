@@ -1,0 +1,23 @@
+//! The commands that keep folders of a host in an image, with their history: from the host before to the host
+//! after.
+#![tactic(auto)]
+
+mod asking;
+mod backing_up;
+mod forgetting;
+mod hosts;
+pub mod laws;
+mod making;
+mod memory;
+mod refusals;
+mod restoring;
+mod storing;
+
+pub use backing_up::backup;
+pub use forgetting::{Forgotten, forget};
+pub use hosts::{Asker, HostFault, Listener, Place, Source, Target};
+pub use making::init;
+pub use memory::{GivenFolder, LaidOut, MemoryPlace, Nobody, there_and_back};
+pub use refusals::Refusal;
+pub use restoring::restore;
+pub use storing::{BackedUp, Terms, store_in};
