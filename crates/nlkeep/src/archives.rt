@@ -96,7 +96,8 @@ fn untar_into<W: Write>(
     let keeping = Keeping::said(rt, matches, clock)?;
     let mut progress = Progress::begin(rt, matches);
     let gathered = unpacked(rt, &mut progress)?;
-    keeping.keep_gathered(rt, clock, gathered, &mut progress, place, printer)
+    let held = keeping.held(rt, clock)?;
+    keeping.keep_gathered(rt, held, gathered, &mut progress, place, printer)
 }
 
 /// Keeps the tree of an archive as the next snapshot.

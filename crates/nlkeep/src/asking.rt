@@ -57,8 +57,8 @@ pub fn word<'a>(matches: &ArgMatches<'a>, id: &str) -> &'a str {
 /// The words that say a path of a volume.
 const PATHS: [&str; 2] = ["PATH", "path"];
 
-/// Sees to it that no path of a volume is an empty word, as a variable of a shell is that isn't set: it would mean
-/// the root, and so all that there is.
+/// Sees to it that no path of a volume is an empty word, as a variable of a shell is that isn't set: it would
+/// mean the root, and so all that there is.
 pub fn judge_paths(alloc: Global, matches: &ArgMatches<'_>) -> Result<(), Fault> {
     for id in &PATHS {
         if matches!(matches.get_str(*id), Some(word) if word.is_empty()) {

@@ -7,13 +7,13 @@ use crate::asking::{Outcome, word};
 use crate::complaining::complain;
 use crate::faults::{Fault, volume_fault};
 use crate::image_files::{Purpose, irregular, read_for};
-use crate::images::pen_of;
 use crate::printing::Printer;
 use crate::sums::{Summed, beside_sum, kept_in, sum_path};
 use crate::verdicts::tell_objects;
 use clap::ArgMatches;
 use nl_damage::sums::{Comparison, Kept};
 use nl_damage::{Finding, Judged, Place, Sections, path_of, place_of};
+use nl_keep_pen::OpenedVolume;
 use nl_saving::FirstBytes;
 use nl_types::{BLOCK_SIZE, VolError};
 use std::alloc::{AllocError, Global};
@@ -25,7 +25,7 @@ fn first_failing(alloc: Global, image: &[u8]) -> Result<Option<u8>, VolError>
     ensures first { IfOk result (λ failing. IfSome failing (λ n. FirstFails n image.now)) }
     ensures refused { IfErr result (λ e. (e ≡ VolError.Fault) ⊎ (e ≡ VolError.Memory)) }
 {
-    match pen_of(alloc, image) {
+    match OpenedVolume::open(alloc, image) {
         Ok(_) => Ok(None),
         Err(VolError::BadImage(number)) => Ok(Some(number)),
         Err(error) => Err(error),

@@ -1,41 +1,10 @@
 //! Which checkpoints a volume keeps, and which of them a word means.
 use crate::asking::Clock;
-use crate::faults::{Fault, fault_at, volume_fault};
+use crate::faults::{Fault, fault_at};
 use crate::moments::moment_said;
-use nl_core::Pen;
-use nl_device::MemDevice;
-use nl_types::{
-    Answer, CheckpointNumber, Event, Items, ListOptions, Reply, Row, VolError, decimal,
-};
+use nl_types::{CheckpointNumber, Row, decimal};
 pub use nl_words::is_plain_minor as is_minor;
 use std::alloc::Global;
-
-/// All checkpoints, the minor ones too.
-const ALL: ListOptions = ListOptions {
-    reverse: false,
-    snapshots_only: false,
-    with_minor: true,
-    from: None,
-    count: None,
-};
-
-/// The rows that were asked for. No pen answers a listing by anything else.
-fn rows_in(reply: Reply) -> Result<Items<Row>, VolError> {
-    match reply {
-        Ok(Answer::Rows(rows)) => Ok(rows),
-        Ok(_) => Err(VolError::Fault),
-        Err(error) => Err(error),
-    }
-}
-
-/// What is told of the kept checkpoints, by their numbers, of the minor ones too. `image` is where the
-/// volume's image stands.
-pub fn rows(alloc: Global, image: &str, pen: &mut Pen<MemDevice>) -> Result<Items<Row>, Fault> {
-    match rows_in(pen.apply(&Event::Listing(ALL))) {
-        Ok(rows) => Ok(rows),
-        Err(error) => Err(volume_fault(alloc, image, error)),
-    }
-}
 
 /// The latest checkpoint that isn't minor, nor later than a moment.
 fn latest_until(rows: &[Row], moment: u64) -> Option<CheckpointNumber> {
@@ -62,7 +31,7 @@ fn by_date(
 
 /// The checkpoint that a word means: a number; `latest`; or a date, which means the latest one at or before
 /// it. Those two pass minor ones over. `rows` are of all kept ones.
-pub fn meant(
+fn meant(
     alloc: Global,
     word: &str,
     rows: &[Row],
@@ -78,4 +47,19 @@ pub fn meant(
         };
     }
     by_date(alloc, word, rows, clock)
+}
+
+/// The same, which has to be kept.
+pub fn kept_number(
+    alloc: Global,
+    word: &str,
+    rows: &[Row],
+    clock: &Clock<'_>,
+) -> Result<CheckpointNumber, Fault> {
+    let number = meant(alloc, word, rows, clock)?;
+    if rows.iter().any(|row| row.number == number) {
+        Ok(number)
+    } else {
+        Err(fault_at(alloc, word, "no such checkpoint is kept"))
+    }
 }

@@ -1,7 +1,7 @@
 //! Files that saves of an image left beside it, since they were cut off.
 use crate::complaining::complain;
 use crate::faults::{Fault, system_fault};
-use crate::images::pen_of;
+use nl_keep_pen::OpenedVolume;
 use nl_saving::{Leftover, Leftovers, SavePlace};
 use nl_types::VolError;
 use std::alloc::Global;
@@ -28,7 +28,7 @@ fn fate_of(alloc: Global, left: &mut Leftover) -> Fate {
     let Ok(bytes) = left.read(alloc) else {
         return Fate::Unread;
     };
-    match pen_of(alloc, bytes.as_slice()) {
+    match OpenedVolume::open(alloc, bytes.as_slice()) {
         Err(VolError::BadImage(_)) => Fate::Removed,
         Ok(_) => Fate::Whole,
         Err(_) => Fate::Unread,

@@ -12,12 +12,10 @@ use crate::storing::{Stores, Wanted, store_in};
 use crate::telling::{News, done_to};
 use crate::views::{View, latest_stamp};
 use clap::ArgMatches;
-use nl_core::Pen;
-use nl_device::MemDevice;
 use nl_folders::{Tree, same_trees};
 use nl_pins::with_pins;
 use nl_saving::SavePlace;
-use nl_types::{CheckpointNumber, Event, Items, Mode, Row, VolError, without_answer};
+use nl_types::{CheckpointNumber, Items, Mode, Row};
 use nl_words::{Kept, coming, missing};
 use std::alloc::{AllocError, Global};
 use std::fs;
@@ -261,12 +259,9 @@ impl Copying<'_> {
         copied: &mut Copied,
     ) -> Result<(), Fault> {
         let wanted = self.wanted(alloc, row, target)?;
-        let Stores { stored, image, .. } = store_in(
-            alloc,
-            self.path,
-            copied.image.as_slice(),
-            &wanted,
-        )?;
+        let earlier = copied.image.as_slice();
+        let volume = open_image(alloc, self.path, earlier)?;
+        let Stores { stored, image, .. } = store_in(alloc, self.path, earlier, volume, &wanted)?;
         copied.note(stored.number, row.mode, image)?;
         Ok(())
     }
@@ -305,44 +300,6 @@ impl Copying<'_> {
 
 // ---- plain ones
 
-fn make_plain(pen: &mut Pen<MemDevice>, number: CheckpointNumber) -> Result<(), VolError> {
-    without_answer(pen.apply(&Event::ChangeMode(number, Mode::Plain)))
-}
-
-/// The image of a pen, which is as it was opened but for modes.
-fn closed(pen: &mut Pen<MemDevice>) -> Result<Vec<u8>, VolError> {
-    if pen.is_dirty() {
-        // No change of a mode makes it so.
-        return Err(VolError::Fault);
-    }
-    pen.give_all_back();
-    pen.close()
-}
-
-/// The image of a pen, in which checkpoints are made plain.
-fn plain_bytes(
-    pen: &mut Pen<MemDevice>,
-    numbers: &[CheckpointNumber],
-) -> Result<Vec<u8>, VolError> {
-    for number in numbers {
-        make_plain(pen, *number)?;
-    }
-    closed(pen)
-}
-
-/// The same of the pen of the image at a path.
-fn plain_image(
-    alloc: Global,
-    path: &str,
-    pen: &mut Pen<MemDevice>,
-    numbers: &[CheckpointNumber],
-) -> Result<Vec<u8>, Fault> {
-    match plain_bytes(pen, numbers) {
-        Ok(next) => Ok(next),
-        Err(error) => Err(volume_fault(alloc, path, error)),
-    }
-}
-
 /// An image in which checkpoints are made plain.
 fn with_plain(
     alloc: Global,
@@ -350,8 +307,11 @@ fn with_plain(
     image: &[u8],
     numbers: &[CheckpointNumber],
 ) -> Result<Vec<u8>, Fault> {
-    let mut volume = open_image(alloc, path, image)?;
-    plain_image(alloc, path, &mut volume.pen, numbers)
+    let volume = open_image(alloc, path, image)?;
+    match volume.with_plain(numbers) {
+        Ok(next) => Ok(next),
+        Err(error) => Err(volume_fault(alloc, path, error)),
+    }
 }
 
 /// The image of what was copied, in which those are plain that are to be.
@@ -464,8 +424,8 @@ fn judge_paths(rt: &HostRuntime, path: &str, other: &str) -> Result<(), Fault> {
 
 /// Brings each checkpoint of an image into another one that isn't earlier than the latest of that, and that
 /// it lacks, the oldest first, with its tree, its date and its mode, and saves that image. Minor ones are
-/// passed over. Where nothing stands in the place of the other image, it is made. Bytes that differ from the sum of
-/// the image are copied as they are, and told.
+/// passed over. Where nothing stands in the place of the other image, it is made. Bytes that differ from the
+/// sum of the image are copied as they are, and told.
 pub fn copy<W: Write>(
     rt: &HostRuntime,
     matches: &ArgMatches<'_>,

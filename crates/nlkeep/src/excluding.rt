@@ -5,7 +5,7 @@ use crate::faults::{Fault, fault_at};
 use clap::ArgMatches;
 use nl_folders::{Name, Path};
 use nl_host::Pattern;
-use nl_types::Object;
+use nl_manifests::{HostEntry, HostObject};
 use std::alloc::{AllocError, Global};
 use std::{fs, io, str};
 
@@ -22,7 +22,7 @@ pub fn patterns<'a>(alloc: Global, matches: &ArgMatches<'a>) -> Result<Vec<Patte
     let words = matches.get_strs("exclude").unwrap_or(&[]);
     let mut patterns = Vec::with_capacity(alloc, words.len())?;
     for word in words {
-        if *word == "." || *word == "./" {
+        if *word == "." || *word == "./" || *word == "/" {
             return Err(fault_at(alloc, word, "is FOLDER itself, which can't be left out"));
         }
         patterns.push(pattern_of(word))?;
@@ -110,12 +110,12 @@ fn unmet_in<'a>(
 fn unmet_words<'a>(
     rt: &HostRuntime,
     root: &str,
-    tree: &[(Path, Object)],
+    tree: &[(Path, HostEntry)],
     words: &[&'a str],
 ) -> io::Result<Vec<Unmet<'a>>> {
     let mut all = all_unmet(rt.alloc(), words)?;
-    for (path, object) in tree {
-        if all.is_empty() || !matches!(object, Object::Dir) {
+    for (path, entry) in tree {
+        if all.is_empty() || !matches!(entry.object, HostObject::Directory) {
             continue;
         }
         if let Some(below) = path_text(rt.alloc(), path.as_slice())? {
@@ -129,7 +129,7 @@ fn unmet_words<'a>(
 pub fn tell_unmet(
     rt: &HostRuntime,
     matches: &ArgMatches<'_>,
-    tree: &[(Path, Object)],
+    tree: &[(Path, HostEntry)],
 ) -> Result<(), Fault> {
     let words = matches.get_strs("exclude").unwrap_or(&[]);
     let unmet = unmet_words(rt, word(matches, "FOLDER"), tree, words)?;

@@ -1,5 +1,6 @@
 //! Why a command is refused.
 use nl_folders::FolderError;
+use nl_keep::KeepError;
 use nl_types::VolError;
 use std::alloc::{AllocError, AllocFailed, Global};
 use std::io;
@@ -9,6 +10,9 @@ pub const REFUSED: u8 = 2;
 
 /// The status of one that has changed something, and isn't done whole.
 pub const PARTLY: u8 = 3;
+
+/// What is said of a tree of the volume that is none. No volume has one.
+pub const DISORDERED: &str = "has a tree that is not in order";
 
 /// Why a command isn't done, or not whole.
 #[derive(Drop)]
@@ -97,6 +101,14 @@ pub fn tree_fault(alloc: Global, image: &str, error: FolderError) -> Fault {
     match error {
         FolderError::Refused(error) => volume_fault(alloc, image, error),
         FolderError::Unread => fault_at(alloc, image, "cannot be read"),
-        FolderError::Disordered => fault_at(alloc, image, "has a tree that is not in order"),
+        FolderError::Disordered => fault_at(alloc, image, DISORDERED),
+    }
+}
+
+/// The same of a whole tree that is read.
+pub fn read_fault(alloc: Global, image: &str, error: KeepError) -> Fault {
+    match error {
+        KeepError::Refused(error) => volume_fault(alloc, image, error),
+        KeepError::Disordered => fault_at(alloc, image, DISORDERED),
     }
 }

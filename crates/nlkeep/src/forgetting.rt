@@ -1,14 +1,15 @@
 //! `forget`: checkpoints are removed, snapshots too.
 use crate::asking::{Clock, Outcome, moment, most, word};
 use crate::faults::{Fault, fault_at, told, volume_fault};
-use crate::images::{device_for, read_image, take_place};
+use crate::hosting::LockedImage;
 use crate::printing::Printer;
-use crate::telling::{News, done_to};
-use crate::views::{Made, View};
+use crate::telling::{News, done_to, tell_news};
+use crate::views::{Made, tell_earlier, tell_late};
 use clap::ArgMatches;
-use nl_keep_pen::{Round, RoundIfShort, forget_image};
-use nl_saving::SavePlace;
-use nl_types::{CheckpointNumber, Row, decimal};
+use nl_backups::{Asker, Forgotten, HostFault, Listener};
+use nl_folders::Path;
+use nl_keep_pen::{Cleaning, OpenedVolume};
+use nl_types::{CheckpointNumber, Object, Row, decimal};
 use nl_words::{Numbers, going, names_any, staying};
 use std::alloc::Global;
 use std::io::Write;
@@ -57,33 +58,16 @@ fn ranges_said(alloc: Global, words: &[&str], rows: &[Row]) -> Result<Vec<Number
     Ok(ranges)
 }
 
-/// The checkpoints of an image that are to be forgotten at a moment, one after another. A late date is told.
-fn numbers_said(
-    rt: &HostRuntime,
-    path: &str,
-    image: &[u8],
-    words: &[&str],
-    clock: &Clock<'_>,
-    moment: u64,
-) -> Result<Vec<CheckpointNumber>, Fault> {
-    let view = View::of(rt, path, image, clock)?;
-    let rows = view.rows.as_slice();
-    let ranges = ranges_said(rt.alloc(), words, rows)?;
-    view.tell_earlier(rt, clock, moment, Made::Minor)?;
-    Ok(going(rt.alloc(), ranges.as_slice(), rows)?)
-}
-
-/// The image without checkpoints.
-fn without(
+/// The image of a volume without checkpoints.
+pub fn without(
     alloc: Global,
     path: &str,
-    image: &[u8],
+    volume: OpenedVolume,
     numbers: &[CheckpointNumber],
     moment: u64,
+    cleaning: Cleaning,
 ) -> Result<Vec<u8>, Fault> {
-    let device = device_for(alloc, path, image)?;
-    let round = Round { alloc, moment };
-    match forget_image(alloc, image, device, numbers, &mut RoundIfShort { round }) {
+    match volume.forget(alloc, numbers, moment, cleaning) {
         Ok(next) => Ok(next),
         Err(error) => Err(volume_fault(alloc, path, error)),
     }
@@ -98,43 +82,96 @@ fn told_of(alloc: Global, count: usize) -> Result<News, Fault> {
     Ok(News { text, done })
 }
 
-/// Removes checkpoints of an image, and saves it.
-fn forget_numbers<W: Write>(
-    rt: &HostRuntime,
-    path: &str,
-    image: &[u8],
-    numbers: &[CheckpointNumber],
+/// Who removes checkpoints.
+#[derive(Drop)]
+struct Remover<'r, 'c, 'z, 'm, 'w> {
+    rt: &'r HostRuntime,
+    clock: &'c Clock<'z>,
+    path: &'w str,
+    words: &'m [&'w str],
     moment: u64,
-    place: &mut SavePlace<'_>,
-    printer: &mut Printer<W>,
-) -> Result<Outcome, Fault> {
-    let next = without(rt.alloc(), path, image, numbers, moment)?;
-    let news = told_of(rt.alloc(), numbers.len())?;
-    news.save(rt, path, place, next.as_slice(), printer)
+    /// What is told once the image is saved.
+    news: Option<News>,
+    fault: Option<Fault>,
+}
+
+impl Remover<'_, '_, '_, '_, '_> {
+    /// The checkpoints that are to be forgotten, one after another. A late date is told.
+    fn numbers_said(&self, rows: &[Row]) -> Result<Vec<CheckpointNumber>, Fault> {
+        let alloc = self.rt.alloc();
+        tell_late(self.rt, self.path, rows, self.clock)?;
+        let ranges = ranges_said(alloc, self.words, rows)?;
+        tell_earlier(
+            self.rt,
+            self.path,
+            rows,
+            self.clock,
+            self.moment,
+            Made::Minor,
+        )?;
+        Ok(going(alloc, ranges.as_slice(), rows)?)
+    }
+}
+
+impl Asker<Vec<CheckpointNumber>> for Remover<'_, '_, '_, '_, '_> {
+    fn asked(
+        &mut self,
+        _: &OpenedVolume,
+        rows: &[Row],
+    ) -> Result<Vec<CheckpointNumber>, HostFault> {
+        match self.numbers_said(rows) {
+            Ok(numbers) => Ok(numbers),
+            Err(fault) => {
+                self.fault = Some(fault);
+                Err(HostFault)
+            }
+        }
+    }
+}
+
+impl Listener<Forgotten> for Remover<'_, '_, '_, '_, '_> {
+    fn done(&mut self, news: &Forgotten) -> Result<(), HostFault> {
+        match told_of(self.rt.alloc(), news.numbers.len()) {
+            Ok(news) => {
+                self.news = Some(news);
+                Ok(())
+            }
+            Err(fault) => {
+                self.fault = Some(fault);
+                Err(HostFault)
+            }
+        }
+    }
+
+    // Nothing is stored.
+    fn full(&mut self, _: &[u8], _: &[(Path, Object)]) {}
 }
 
 fn forget_in<W: Write>(
     rt: &HostRuntime,
     matches: &ArgMatches<'_>,
     clock: &Clock<'_>,
-    place: &mut SavePlace<'_>,
+    image: &mut LockedImage<'_, '_>,
     printer: &mut Printer<W>,
 ) -> Result<Outcome, Fault> {
-    let path = word(matches, "IMAGE");
-    let words = matches.get_strs("R").unwrap_or(&[]);
     let moment = moment(rt, matches, clock.now)?;
     most(rt, matches)?;
-    let image = read_image(rt, path)?;
-    let numbers = numbers_said(rt, path, image.as_slice(), words, clock, moment)?;
-    forget_numbers(
+    let mut remover = Remover {
         rt,
-        path,
-        image.as_slice(),
-        numbers.as_slice(),
+        clock,
+        path: word(matches, "IMAGE"),
+        words: matches.get_strs("R").unwrap_or(&[]),
         moment,
-        place,
-        printer,
-    )
+        news: None,
+        fault: None,
+    };
+    match nl_backups::forget(rt.alloc(), image, &mut remover, moment, Cleaning::IfShort) {
+        Ok(_) => {
+            tell_news(remover.news.take(), printer)?;
+            Ok(image.outcome)
+        }
+        Err(refusal) => Err(image.fault_of(remover.fault.take(), refusal)),
+    }
 }
 
 /// Removes checkpoints, and saves the image.
@@ -144,6 +181,6 @@ pub fn forget<W: Write>(
     clock: &Clock<'_>,
     printer: &mut Printer<W>,
 ) -> Result<Outcome, Fault> {
-    let mut place = take_place(rt, word(matches, "IMAGE"))?;
-    forget_in(rt, matches, clock, &mut place, printer)
+    let mut image = LockedImage::take(rt, word(matches, "IMAGE"))?;
+    forget_in(rt, matches, clock, &mut image, printer)
 }

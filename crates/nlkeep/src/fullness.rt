@@ -2,7 +2,6 @@
 use crate::df::needed_bytes;
 use crate::faults::Fault;
 use crate::sizes::{MOST, SEGMENT_BYTES, Size};
-use crate::storing::Wanted;
 use crate::views::View;
 use nl_folders::{Path, all_differences, find_in};
 use nl_types::{BLOCK_SIZE, Object};
@@ -74,11 +73,17 @@ fn help_for(size: u64) -> &'static str {
     }
 }
 
-fn full_text(alloc: Global, path: &str, image: &[u8], wanted: &Wanted) -> Result<String, Fault> {
+fn full_text(
+    alloc: Global,
+    path: &str,
+    image: &[u8],
+    wanted: &[(Path, Object)],
+    most: u64,
+) -> Result<String, Fault> {
     let view = View::silent(alloc, path, image)?;
     let earlier = view.present_tree(alloc)?;
-    let written = new_bytes(alloc, earlier.as_slice(), wanted.tree.as_slice())?;
-    let size = greatest_size(&view, wanted.most);
+    let written = new_bytes(alloc, earlier.as_slice(), wanted)?;
+    let size = greatest_size(&view, most);
     let left = size.saturating_sub(needed_bytes(alloc, path, view.pen())?);
     let (size, help) = (Size(size), help_for(size));
     Ok(format!(in alloc;
@@ -87,10 +92,16 @@ fn full_text(alloc: Global, path: &str, image: &[u8], wanted: &Wanted) -> Result
     )?)
 }
 
-/// That the volume of an image has no room for a tree: how many bytes that needs, how many there are, and
-/// what gives more. `path` is where the image stands.
-pub fn full_fault(alloc: Global, path: &str, image: &[u8], wanted: &Wanted) -> Fault {
-    match full_text(alloc, path, image, wanted) {
+/// That the volume of an image, which may become so great, has no room for a tree: how many bytes that needs,
+/// how many there are, and what gives more. `path` is where the image stands.
+pub fn full_fault(
+    alloc: Global,
+    path: &str,
+    image: &[u8],
+    wanted: &[(Path, Object)],
+    most: u64,
+) -> Fault {
+    match full_text(alloc, path, image, wanted, most) {
         Ok(text) => Fault::Told(text),
         Err(fault) => fault,
     }

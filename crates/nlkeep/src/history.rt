@@ -84,7 +84,8 @@ fn tell_standing<W: Write>(
 }
 
 /// Tells each kept checkpoint whose tree differs at or below a path from that of the one before, the oldest
-/// first, with its date and what stands there, in a line or an object. Minor ones, which no person made, are passed over.
+/// first, with its date and what stands there, in a line or an object. Minor ones, which no person made, are
+/// passed over.
 pub fn history<W: Write>(
     alloc: Global,
     matches: &ArgMatches<'_>,
@@ -116,8 +117,8 @@ fn is_named(path: &[Name], name: &str) -> bool {
     }
 }
 
-/// Tells what the tree of a checkpoint shows under a name, wherever that is, a line each. Answers how many they
-/// are.
+/// Tells what the tree of a checkpoint shows under a name, wherever that is, a line each. Answers how many
+/// they are.
 fn find_in<W: Write>(
     alloc: Global,
     view: &View<'_>,

@@ -1,20 +1,11 @@
 //! The image of a volume: read, opened, and saved again.
-ghost use Rattle.std.specs.Prelude.{IfErr, IfOk};
-ghost use Rattle.nl_image.specs.Conditions.{AreImage, IsShapeOf, MeetsFirst};
-ghost use Rattle.nl_image.specs.Parts.{Parts};
-ghost use Rattle.nl_image.specs.Reading.{IsRefusal};
-ghost use Rattle.nl_core.specs.Opened.{IsOpenRefusal};
-
 use crate::asking::Outcome;
 use crate::clearing::clear;
 use crate::faults::{Fault, fault_at, system_fault, told, volume_fault};
 use crate::image_files::{Purpose, read_for};
 use crate::sums::PlannedSum;
-use nl_core::{Pen, geometry_of, open};
-use nl_device::MemDevice;
-use nl_keep_pen::PenVolume;
+use nl_keep_pen::OpenedVolume;
 use nl_saving::{InUse, SavePlace, Saved, SideNames, side_names};
-use nl_types::VolError;
 use std::alloc::{AllocError, Global};
 use std::fs::File;
 use std::io::ErrorKind;
@@ -28,44 +19,10 @@ pub fn read_image<R: AllocGlobal + Files>(rt: &R, path: &str) -> Result<Vec<u8>,
     Ok(read.bytes)
 }
 
-fn device_of(alloc: Global, image: &[u8]) -> Result<MemDevice, VolError>
-    ensures shape { IfOk result (λ device. (p : Parts) → MeetsFirst 2 image.now p
-        → IsShapeOf device.geometry p.shape) }
-    ensures refused { IfErr result (IsRefusal image.now) }
-{
-    let geometry = geometry_of(image)?;
-    let device = MemDevice::new(alloc, geometry)?;
-    Ok(device)
-}
-
-/// A device for the volume of an image. `path` is where that stands.
-pub fn device_for(alloc: Global, path: &str, image: &[u8]) -> Result<MemDevice, Fault>
-    ensures { IfOk result (λ device. (p : Parts) → MeetsFirst 2 image.now p
-        → IsShapeOf device.geometry p.shape) }
-{
-    match device_of(alloc, image) {
-        Ok(device) => Ok(device),
-        Err(error) => Err(volume_fault(alloc, path, error)),
-    }
-}
-
-/// The volume of an image, on a device of its own. Refused as `open` of `nl_core` is.
-pub fn pen_of(alloc: Global, image: &[u8]) -> Result<Pen<MemDevice>, VolError>
-    ensures accepted { IfOk result (λ _. AreImage image.now) }
-    ensures refused { IfErr result (IsOpenRefusal image.now) }
-{
-    let device = device_of(alloc, image)?;
-    open(alloc, image, device)
-}
-
 /// The volume of an image. `path` is where that stands.
-pub fn open_image(
-    alloc: Global,
-    path: &str,
-    image: &[u8],
-) -> Result<Box<PenVolume<MemDevice>>, Fault> {
-    match pen_of(alloc, image) {
-        Ok(pen) => Ok(Box::new(alloc, PenVolume { pen })?),
+pub fn open_image(alloc: Global, path: &str, image: &[u8]) -> Result<OpenedVolume, Fault> {
+    match OpenedVolume::open(alloc, image) {
+        Ok(volume) => Ok(volume),
         Err(error) => Err(volume_fault(alloc, path, error)),
     }
 }

@@ -3,6 +3,7 @@ use crate::amounts::{Amount, amount_of};
 use crate::archives::tar;
 use crate::asking::{Clock, Outcome, word};
 use crate::checkpoints::is_minor;
+use crate::commands::Look;
 use crate::comparing::Comparing;
 use crate::df::df;
 use crate::faults::{Fault, volume_fault};
@@ -12,7 +13,6 @@ use crate::moments::{shown, shown_in_zone};
 use crate::outline::{Shown, du, nothing_there, tree};
 use crate::parts::path_said;
 use crate::printing::{Printer, Seen, tell_no_pins};
-use crate::restore::restore;
 use crate::showing::show;
 use crate::views::View;
 use clap::ArgMatches;
@@ -269,7 +269,7 @@ fn diff<W: Write>(
 /// Does a command that looks at a volume. A late date is told first.
 fn look_at<W: Write>(
     rt: &HostRuntime,
-    name: &str,
+    look: Look,
     matches: &ArgMatches<'_>,
     clock: &Clock<'_>,
     view: &View<'_>,
@@ -283,30 +283,29 @@ fn look_at<W: Write>(
         clock,
         view,
     };
-    match name {
-        "list" => asked.list(rt, printer),
-        "ls" => asked.ls(rt, printer),
-        "cat" => cat(alloc, matches, clock, view, printer),
-        "diff" => diff(rt, matches, clock, view, printer),
-        "history" => history(alloc, matches, clock, view, printer),
-        "df" => df(alloc, matches, view, printer),
-        "show" => show(alloc, clock, view, printer),
-        "find" => find(alloc, view, word(matches, "NAME"), printer),
-        "tree" => tree(rt, matches, clock, view, printer),
-        "du" => du(rt, matches, clock, view, printer),
-        "tar" => tar(rt, matches, clock, view, printer),
-        _ => restore(rt, matches, clock, view),
+    match look {
+        Look::List => asked.list(rt, printer),
+        Look::Ls => asked.ls(rt, printer),
+        Look::Cat => cat(alloc, matches, clock, view, printer),
+        Look::Diff => diff(rt, matches, clock, view, printer),
+        Look::History => history(alloc, matches, clock, view, printer),
+        Look::Find => find(alloc, view, word(matches, "NAME"), printer),
+        Look::Tree => tree(rt, matches, clock, view, printer),
+        Look::Du => du(rt, matches, clock, view, printer),
+        Look::Df => df(alloc, matches, view, printer),
+        Look::Show => show(alloc, clock, view, printer),
+        Look::Tar => tar(rt, matches, clock, view, printer),
     }
 }
 
 /// Opens the image that a command names, and does that command, which looks at it.
 pub fn look<W: Write>(
     rt: &HostRuntime,
-    name: &str,
+    look: Look,
     matches: &ArgMatches<'_>,
     clock: &Clock<'_>,
     printer: &mut Printer<W>,
 ) -> Result<Outcome, Fault> {
     let view = View::at(rt, word(matches, "IMAGE"))?;
-    look_at(rt, name, matches, clock, &view, printer)
+    look_at(rt, look, matches, clock, &view, printer)
 }

@@ -8,6 +8,7 @@ mod backup;
 mod checking;
 mod checkpoints;
 mod clearing;
+mod commands;
 mod comparing;
 mod complaining;
 mod copying;
@@ -17,8 +18,8 @@ mod faults;
 mod forgetting;
 mod fullness;
 mod gauge;
-mod grafting;
 mod history;
+mod hosting;
 mod image_files;
 mod images;
 mod json;
@@ -51,12 +52,13 @@ mod views;
 
 use asking::{Clock, Outcome, judge_paths};
 use clap::ArgMatches;
+use commands::Command;
 use complaining::{complain, complain_more, complain_whole};
 use faults::{Fault, REFUSED};
 use jiff::tz::TimeZone;
 use moments::{Zones, now};
 use nl_saving::StandIns;
-use options::program;
+use options::{command_of, program};
 use printing::Printer;
 use std::io::{BufWriter, IsTerminal, Write};
 use std::process::ExitCode;
@@ -65,35 +67,36 @@ use std::{env, io};
 /// Does a command.
 fn done<W: Write>(
     rt: &HostRuntime,
-    name: &str,
+    command: Command,
     matches: &ArgMatches<'_>,
     clock: &Clock<'_>,
     printer: &mut Printer<W>,
 ) -> Result<Outcome, Fault> {
-    match name {
-        "init" => making::init(rt, matches, clock),
-        "backup" => backup::backup(rt, matches, clock, printer),
-        "forget" => forgetting::forget(rt, matches, clock, printer),
-        "prune" => pruning::prune(rt, matches, clock, printer),
-        "untar" => archives::untar(rt, matches, clock, printer),
-        "revert" => reverting::revert(rt, matches, clock, printer),
-        "check" => checking::check(rt, matches, printer),
-        "rescue" => rescue::rescue(rt, matches, printer),
-        "copy" => copying::copy(rt, matches, clock, printer),
-        "pin" => pinning::pin(rt, matches, clock, printer),
-        _ => looking::look(rt, name, matches, clock, printer),
+    match command {
+        Command::Init => making::init(rt, matches, clock),
+        Command::Backup => backup::backup(rt, matches, clock, printer),
+        Command::Restore => restore::restore(rt, matches, clock),
+        Command::Revert => reverting::revert(rt, matches, clock, printer),
+        Command::Untar => archives::untar(rt, matches, clock, printer),
+        Command::Copy => copying::copy(rt, matches, clock, printer),
+        Command::Forget => forgetting::forget(rt, matches, clock, printer),
+        Command::Pin => pinning::pin(rt, matches, clock, printer),
+        Command::Prune => pruning::prune(rt, matches, clock, printer),
+        Command::Check => checking::check(rt, matches, printer),
+        Command::Rescue => rescue::rescue(rt, matches, printer),
+        Command::Looks(look) => looking::look(rt, look, matches, clock, printer),
     }
 }
 
 /// Does a command, and writes what is left of what it tells. A command that saves an image leaves nothing.
 fn done_and_told<W: Write>(
     rt: &HostRuntime,
-    name: &str,
+    command: Command,
     matches: &ArgMatches<'_>,
     clock: &Clock<'_>,
     printer: &mut Printer<W>,
 ) -> Result<Outcome, Fault> {
-    let outcome = done(rt, name, matches, clock, printer)?;
+    let outcome = done(rt, command, matches, clock, printer)?;
     printer.out.flush()?;
     Ok(outcome)
 }
@@ -112,14 +115,14 @@ fn rescue_fault(rt: &HostRuntime, matches: &ArgMatches<'_>, fault: Fault) -> Fau
 /// Does a command, and answers the status.
 fn status_of<W: Write>(
     rt: &HostRuntime,
-    name: &str,
+    command: Command,
     matches: &ArgMatches<'_>,
     clock: &Clock<'_>,
     printer: &mut Printer<W>,
 ) -> Result<u8, Fault> {
-    match done_and_told(rt, name, matches, clock, printer) {
+    match done_and_told(rt, command, matches, clock, printer) {
         Ok(outcome) => Ok(outcome.status()),
-        Err(fault) if name == "rescue" => Err(rescue_fault(rt, matches, fault)),
+        Err(fault) if matches!(command, Command::Rescue) => Err(rescue_fault(rt, matches, fault)),
         Err(fault) => Err(fault),
     }
 }
@@ -127,7 +130,7 @@ fn status_of<W: Write>(
 /// Does a command by the clock as a zone has it, and answers the status.
 fn run_in_zone(
     rt: &HostRuntime,
-    name: &str,
+    command: Command,
     matches: &ArgMatches<'_>,
     zone: TimeZone<'_>,
 ) -> Result<u8, Fault> {
@@ -139,7 +142,7 @@ fn run_in_zone(
         out: BufWriter::new(rt.alloc(), rt.stdout())?,
         is_terminal: rt.stdout().is_terminal(),
     };
-    status_of(rt, name, matches, &clock, &mut printer)
+    status_of(rt, command, matches, &clock, &mut printer)
 }
 
 /// Does the command that is asked for, and answers the status.
@@ -147,9 +150,12 @@ fn run_command(rt: &HostRuntime, matches: &ArgMatches<'_>) -> Result<u8, Fault> 
     let Some((name, matches)) = matches.subcommand() else {
         return Ok(REFUSED);
     };
+    let Some(command) = command_of(name) else {
+        return Ok(REFUSED);
+    };
     judge_paths(rt.alloc(), matches)?;
     let zones = Zones::read(rt);
-    run_in_zone(rt, name, matches, zones.zone())
+    run_in_zone(rt, command, matches, zones.zone())
 }
 
 fn tell_lines(rt: &HostRuntime, lines: &[String]) {

@@ -1,12 +1,10 @@
 //! `init`: a new volume in a new file.
 use crate::asking::{Clock, Outcome, moment, segments, word};
 use crate::faults::{Fault, fault_at, system_fault, volume_fault};
-use crate::images::{save_image, take_place};
+use crate::hosting::LockedImage;
 use crate::sizes::BLOCKS;
 use clap::ArgMatches;
-use nl_device::MemDevice;
 use nl_keep_pen::format_image;
-use nl_saving::SavePlace;
 use nl_types::{Geometry, VolError};
 use std::alloc::Global;
 use std::fs;
@@ -23,28 +21,24 @@ pub fn new_image(
     moment: u64,
 ) -> Result<Vec<u8>, VolError> {
     let geometry = Geometry::new(segments, blocks)?;
-    let device = MemDevice::new(alloc, geometry)?;
-    format_image(alloc, device, geometry, moment)
+    format_image(alloc, geometry, moment)
 }
 
-fn init_in(
-    rt: &HostRuntime,
-    matches: &ArgMatches<'_>,
-    clock: &Clock<'_>,
-    place: &mut SavePlace<'_>,
-) -> Result<Outcome, Fault> {
-    let alloc = rt.alloc();
-    let path = word(matches, "IMAGE");
+/// Sees to it that nothing stands where an image is to be made.
+fn judge_new(rt: &HostRuntime, path: &str) -> Result<(), Fault> {
     match fs::symlink_metadata(rt, path) {
-        Ok(_) => return Err(fault_at(alloc, path, "is there already")),
-        Err(error) if error.kind() == ErrorKind::NotFound => {}
-        Err(error) => return Err(system_fault(alloc, path, "cannot be made", &error)),
+        Ok(_) => Err(fault_at(rt.alloc(), path, "is there already")),
+        Err(error) if error.kind() == ErrorKind::NotFound => Ok(()),
+        Err(error) => Err(system_fault(rt.alloc(), path, "cannot be made", &error)),
     }
+}
+
+/// How a new volume is divided.
+fn geometry_said(rt: &HostRuntime, matches: &ArgMatches<'_>) -> Result<Geometry, Fault> {
     let segments = segments(rt, matches, "size", DEFAULT)?;
-    let moment = moment(rt, matches, clock.now)?;
-    match new_image(alloc, segments, BLOCKS, moment) {
-        Ok(image) => save_image(rt, path, place, image.as_slice()),
-        Err(error) => Err(volume_fault(alloc, path, error)),
+    match Geometry::new(segments, BLOCKS) {
+        Ok(geometry) => Ok(geometry),
+        Err(error) => Err(volume_fault(rt.alloc(), word(matches, "IMAGE"), error)),
     }
 }
 
@@ -54,6 +48,12 @@ pub fn init(
     matches: &ArgMatches<'_>,
     clock: &Clock<'_>,
 ) -> Result<Outcome, Fault> {
-    let mut place = take_place(rt, word(matches, "IMAGE"))?;
-    init_in(rt, matches, clock, &mut place)
+    let mut image = LockedImage::take(rt, word(matches, "IMAGE"))?;
+    judge_new(rt, image.path)?;
+    let geometry = geometry_said(rt, matches)?;
+    let moment = moment(rt, matches, clock.now)?;
+    match nl_backups::init(rt.alloc(), &mut image, geometry, moment) {
+        Ok(()) => Ok(image.outcome),
+        Err(refusal) => Err(image.fault_of(None, refusal)),
+    }
 }

@@ -189,9 +189,9 @@ fn second_said(word: &str, now: u64, zone: &TimeZone<'_>) -> Option<i64> {
     }
 }
 
-/// The moment that a date says: `2026-11-26T18:00` in the zone, with a blank or a `T` before the time; the same
-/// with `Z` behind it, or with an offset as `+01:00`; the last second of `2026-11-26`, `today` or `yesterday` in
-/// the zone; or `now`. None where it is no date, or one before 1970.
+/// The moment that a date says: `2026-11-26T18:00` in the zone, with a blank or a `T` before the time; the
+/// same with `Z` behind it, or with an offset as `+01:00`; the last second of `2026-11-26`, `today` or
+/// `yesterday` in the zone; or `now`. None where it is no date, or one before 1970.
 pub fn moment_said(word: &str, now: u64, zone: &TimeZone<'_>) -> Option<u64> {
     if word.contains('[') {
         // The name of a zone, which the library would pass over.

@@ -1,5 +1,6 @@
 //! What the program is told.
-use clap::{Arg, ArgAction, Command};
+use crate::commands::{Command, Look};
+use clap::{Arg, ArgAction};
 use std::alloc::{AllocError, Global};
 
 /// What stands behind the commands in the help.
@@ -42,6 +43,7 @@ struct Argument<'a> {
 /// A command of the program.
 #[derive(Clone, Copy)]
 struct Form<'a> {
+    command: Command,
     name: &'a str,
     /// What the help says of it.
     about: &'a str,
@@ -104,6 +106,7 @@ const DRY_RUN: Argument<'static> = Argument {
 /// The commands, in the order of the help.
 const COMMANDS: &[Form<'static>] = &[
     Form {
+        command: Command::Init,
         name: "init",
         about: "Makes a new volume in a new file",
         arguments: &[
@@ -117,6 +120,7 @@ const COMMANDS: &[Form<'static>] = &[
         ],
     },
     Form {
+        command: Command::Backup,
         name: "backup",
         about: "Keeps a folder as it is, as the next snapshot",
         arguments: &[
@@ -148,6 +152,7 @@ const COMMANDS: &[Form<'static>] = &[
         ],
     },
     Form {
+        command: Command::Restore,
         name: "restore",
         about: "Lays a checkpoint's tree out in a folder",
         arguments: &[
@@ -171,6 +176,7 @@ const COMMANDS: &[Form<'static>] = &[
         ],
     },
     Form {
+        command: Command::Looks(Look::List),
         name: "list",
         about: "Lists the checkpoints",
         arguments: &[
@@ -189,11 +195,13 @@ const COMMANDS: &[Form<'static>] = &[
         ],
     },
     Form {
+        command: Command::Looks(Look::Ls),
         name: "ls",
         about: "Lists the files and folders of a checkpoint with their sizes",
         arguments: &[IMAGE, NUMBER, PATH, JSON],
     },
     Form {
+        command: Command::Looks(Look::Cat),
         name: "cat",
         about: "Writes a file of a checkpoint to standard output",
         arguments: &[
@@ -207,6 +215,7 @@ const COMMANDS: &[Form<'static>] = &[
         ],
     },
     Form {
+        command: Command::Looks(Look::Diff),
         name: "diff",
         about: "Tells what differs from one checkpoint to another",
         arguments: &[
@@ -226,6 +235,7 @@ const COMMANDS: &[Form<'static>] = &[
         ],
     },
     Form {
+        command: Command::Looks(Look::History),
         name: "history",
         about: "Tells at which checkpoints what stands at a path changed",
         arguments: &[
@@ -239,6 +249,7 @@ const COMMANDS: &[Form<'static>] = &[
         ],
     },
     Form {
+        command: Command::Looks(Look::Find),
         name: "find",
         about: "Tells where in each checkpoint something has a name",
         arguments: &[
@@ -251,26 +262,31 @@ const COMMANDS: &[Form<'static>] = &[
         ],
     },
     Form {
+        command: Command::Looks(Look::Tree),
         name: "tree",
         about: "Draws the files and folders of a checkpoint",
         arguments: &[IMAGE, NUMBER, PATH],
     },
     Form {
+        command: Command::Looks(Look::Du),
         name: "du",
         about: "Tells how many bytes the files of each folder of a checkpoint have",
         arguments: &[IMAGE, NUMBER, PATH],
     },
     Form {
+        command: Command::Looks(Look::Df),
         name: "df",
         about: "Tells how many blocks are clean, needed and dead, and how many a backup can write",
         arguments: &[IMAGE, JSON],
     },
     Form {
+        command: Command::Looks(Look::Show),
         name: "show",
         about: "Writes a page of HTML on the volume to standard output",
         arguments: &[IMAGE],
     },
     Form {
+        command: Command::Revert,
         name: "revert",
         about: "Brings a file or a folder of a checkpoint back, as the next snapshot",
         arguments: &[
@@ -287,16 +303,19 @@ const COMMANDS: &[Form<'static>] = &[
         ],
     },
     Form {
+        command: Command::Looks(Look::Tar),
         name: "tar",
         about: "Writes a checkpoint as an archive to standard output",
         arguments: &[IMAGE, NUMBER, PATH],
     },
     Form {
+        command: Command::Untar,
         name: "untar",
         about: "Keeps an archive from standard input, as the next snapshot",
         arguments: &[IMAGE, QUIET, MOST, MOMENT],
     },
     Form {
+        command: Command::Copy,
         name: "copy",
         about: "Brings later checkpoints of one image into another one",
         arguments: &[
@@ -311,6 +330,7 @@ const COMMANDS: &[Form<'static>] = &[
         ],
     },
     Form {
+        command: Command::Forget,
         name: "forget",
         about: "Removes checkpoints",
         arguments: &[
@@ -325,6 +345,7 @@ const COMMANDS: &[Form<'static>] = &[
         ],
     },
     Form {
+        command: Command::Pin,
         name: "pin",
         about: "Lets a checkpoint stay whatever prune is told, as the next snapshot",
         arguments: &[
@@ -345,6 +366,7 @@ const COMMANDS: &[Form<'static>] = &[
         ],
     },
     Form {
+        command: Command::Prune,
         name: "prune",
         about: "Removes the checkpoints that are not pinned, and that no rule keeps",
         arguments: &[
@@ -389,6 +411,7 @@ const COMMANDS: &[Form<'static>] = &[
         ],
     },
     Form {
+        command: Command::Check,
         name: "check",
         about: "Reads every byte of an image, and tells whether it is damaged",
         arguments: &[
@@ -402,6 +425,7 @@ const COMMANDS: &[Form<'static>] = &[
         ],
     },
     Form {
+        command: Command::Rescue,
         name: "rescue",
         about: "Lays out what can be read of each checkpoint of a damaged image",
         arguments: &[
@@ -452,9 +476,9 @@ fn library_argument(alloc: Global, argument: Argument<'_>) -> Arg<'_> {
 
 fn with_arguments<'a>(
     alloc: Global,
-    command: Command<'a>,
+    command: clap::Command<'a>,
     arguments: &[Argument<'a>],
-) -> Result<Command<'a>, AllocError> {
+) -> Result<clap::Command<'a>, AllocError> {
     let mut command = command;
     for argument in arguments {
         command = command.arg(library_argument(alloc, *argument))?;
@@ -463,14 +487,14 @@ fn with_arguments<'a>(
 }
 
 /// A command, as one of the library's.
-fn library_command(alloc: Global, form: Form<'_>) -> Result<Command<'_>, AllocError> {
-    let bare = Command::new(alloc, form.name).about(form.about);
+fn library_command(alloc: Global, form: Form<'_>) -> Result<clap::Command<'_>, AllocError> {
+    let bare = clap::Command::new(alloc, form.name).about(form.about);
     with_arguments(alloc, bare, form.arguments)
 }
 
 /// The program without its commands. Its name begins the usage of each.
-fn bare<'a>(alloc: Global) -> Result<Command<'a>, AllocError> {
-    Command::new(alloc, "nlkeep")
+fn bare<'a>(alloc: Global) -> Result<clap::Command<'a>, AllocError> {
+    clap::Command::new(alloc, "nlkeep")
         .about("Keeps folders with their history, in a volume with continuous snapshots")
         .version("0.1.0")
         .after_help(MORE)
@@ -481,9 +505,9 @@ fn bare<'a>(alloc: Global) -> Result<Command<'a>, AllocError> {
 
 fn with_command<'a>(
     alloc: Global,
-    program: Command<'a>,
+    program: clap::Command<'a>,
     form: Form<'a>,
-) -> Result<Command<'a>, AllocError> {
+) -> Result<clap::Command<'a>, AllocError> {
     match library_command(alloc, form) {
         Ok(command) => program.subcommand(command),
         Err(error) => Err(error),
@@ -491,11 +515,20 @@ fn with_command<'a>(
 }
 
 /// The program with its commands.
-pub fn program<'a>(alloc: Global) -> Result<Command<'a>, AllocError> {
+pub fn program<'a>(alloc: Global) -> Result<clap::Command<'a>, AllocError> {
     let commands = COMMANDS;
     let mut program = bare(alloc)?;
     for form in commands {
         program = with_command(alloc, program, *form)?;
     }
     Ok(program)
+}
+
+/// The command of a name. None has one that the program doesn't take.
+pub fn command_of(name: &str) -> Option<Command> {
+    let commands = COMMANDS;
+    commands
+        .iter()
+        .find(|form| form.name == name)
+        .map(|form| form.command)
 }

@@ -2,11 +2,11 @@
 use crate::asking::{Clock, Outcome, word};
 use crate::checkpoints::is_minor;
 use crate::faults::{Fault, fault_at};
-use crate::images::{read_image, take_place};
+use crate::images::take_place;
 use crate::printing::Printer;
-use crate::storing::{Keeping, Stores, Wanted, store_in, tell_growth};
+use crate::storing::{Held, Keeping, Stores, Wanted, store_in, tell_growth};
 use crate::telling::{News, done_as};
-use crate::views::{Made, View};
+use crate::views::View;
 use clap::ArgMatches;
 use nl_folders::Tree;
 use nl_pins::{Pins, with_pins};
@@ -118,20 +118,6 @@ impl Pinning {
             tree: Some(tree),
         })
     }
-
-    fn of(
-        rt: &HostRuntime,
-        matches: &ArgMatches<'_>,
-        clock: &Clock<'_>,
-        change: &Change<'_>,
-        keeping: &Keeping<'_>,
-        image: &[u8],
-    ) -> Result<Pinning, Fault> {
-        let view = View::of(rt, keeping.path, image, clock)?;
-        view.tell_earlier(rt, clock, keeping.moment, Made::Checkpoint)?;
-        let word = word(matches, "CNO");
-        Pinning::in_view(rt.alloc(), &view, word, clock, change, keeping.moment)
-    }
 }
 
 /// A pin that is changed by a snapshot.
@@ -166,15 +152,16 @@ fn told_of(alloc: Global, stores: &Stores, pinned: &Pinned<'_>) -> Result<News, 
 /// image is there.
 fn store<W: Write>(
     rt: &HostRuntime,
-    path: &str,
-    image: &[u8],
+    held: Held<'_>,
     wanted: &Wanted,
     pinned: &Pinned<'_>,
     place: &mut SavePlace<'_>,
     printer: &mut Printer<W>,
 ) -> Result<Outcome, Fault> {
     let alloc = rt.alloc();
-    let stores = store_in(alloc, path, image, wanted)?;
+    let Held { image, view } = held;
+    let path = view.path;
+    let stores = store_in(alloc, path, image.as_slice(), view.into_volume(), wanted)?;
     let news = told_of(alloc, &stores, pinned)?;
     news.save(rt, path, place, stores.image.as_slice(), printer)
 }
@@ -196,14 +183,21 @@ fn pin_in<W: Write>(
     printer: &mut Printer<W>,
 ) -> Result<Outcome, Fault> {
     let keeping = Keeping::said(rt, matches, clock)?;
-    let image = read_image(rt, keeping.path)?;
-    let image = image.as_slice();
-    let Pinning { number, tree } = Pinning::of(rt, matches, clock, change, &keeping, image)?;
+    let held = keeping.held(rt, clock)?;
+    let (alloc, word) = (rt.alloc(), word(matches, "CNO"));
+    let Pinning { number, tree } = Pinning::in_view(
+        alloc,
+        &held.view,
+        word,
+        clock,
+        change,
+        keeping.moment,
+    )?;
     match tree {
         Some(tree) => {
             let wanted = keeping.wanted(tree);
             let pinned = Pinned { number, change };
-            store(rt, keeping.path, image, &wanted, &pinned, place, printer)
+            store(rt, held, &wanted, &pinned, place, printer)
         }
         None => tell_pinned(number, printer),
     }

@@ -1,15 +1,16 @@
 //! `prune`: checkpoints are removed that no rule keeps, snapshots too.
 use crate::asking::{Clock, Outcome, moment, word};
 use crate::checkpoints::is_minor;
-use crate::faults::{Fault, fault_at, volume_fault};
-use crate::images::{device_for, open_image, read_image, take_place};
+use crate::faults::{Fault, fault_at};
+use crate::forgetting::without;
+use crate::images::{open_image, take_place};
 use crate::moments::{periods, shown};
 use crate::printing::Printer;
 use crate::telling::{News, done_to};
 use crate::views::{Made, View};
 use clap::ArgMatches;
 use jiff::tz::TimeZone;
-use nl_keep_pen::{Round, forget_image};
+use nl_keep_pen::{Cleaning, OpenedVolume};
 use nl_pins::{Dated, Pins, Rules, descends, expired};
 use nl_saving::SavePlace;
 use nl_types::{CheckpointNumber, Items, Row, decimal};
@@ -119,7 +120,7 @@ impl Pruning {
 /// How many segments of an image are clean, and how many it has.
 fn clean_of(alloc: Global, path: &str, image: &[u8]) -> Result<(usize, usize), Fault> {
     let volume = open_image(alloc, path, image)?;
-    let stat = volume.pen.segments().sustat();
+    let stat = volume.volume().pen.segments().sustat();
     Ok((stat.clean, stat.segments))
 }
 
@@ -134,21 +135,6 @@ fn tell_clean<W: Write>(
     let (clean, segments) = clean_of(alloc, path, image)?;
     writeln!(printer.out, "{clean} of {segments} segments {are} clean")?;
     Ok(())
-}
-
-/// The image without checkpoints, and cleaned.
-fn without(
-    alloc: Global,
-    path: &str,
-    image: &[u8],
-    numbers: &[CheckpointNumber],
-    moment: u64,
-) -> Result<Vec<u8>, Fault> {
-    let device = device_for(alloc, path, image)?;
-    match forget_image(alloc, image, device, numbers, &mut Round { alloc, moment }) {
-        Ok(next) => Ok(next),
-        Err(error) => Err(volume_fault(alloc, path, error)),
-    }
 }
 
 /// Tells how many checkpoints no rule keeps.
@@ -205,27 +191,33 @@ impl<'a> Asked<'a> {
     fn pruning(
         &self,
         rt: &HostRuntime,
-        image: &[u8],
         clock: &Clock<'_>,
         is_done: bool,
-    ) -> Result<Pruning, Fault> {
-        let view = View::of(rt, self.path, image, clock)?;
+    ) -> Result<(OpenedVolume, Pruning), Fault> {
+        let view = View::read(rt, self.path, clock)?;
         if is_done {
             view.tell_earlier(rt, clock, self.moment, Made::Minor)?;
         }
         let going = unkept(rt.alloc(), &self.rules, &view, &clock.zone)?;
-        let rows = view.rows;
-        Ok(Pruning { rows, going })
+        let (volume, rows) = view.into_parts();
+        Ok((volume, Pruning { rows, going }))
     }
 
     /// The image without the checkpoints that go, and cleaned.
-    fn next(&self, alloc: Global, image: &[u8], pruning: &Pruning) -> Result<Vec<u8>, Fault> {
+    fn next(
+        &self,
+        alloc: Global,
+        volume: OpenedVolume,
+        pruning: &Pruning,
+    ) -> Result<Vec<u8>, Fault> {
+        let numbers = pruning.going.as_slice();
         without(
             alloc,
             self.path,
-            image,
-            pruning.going.as_slice(),
+            volume,
+            numbers,
             self.moment,
+            Cleaning::Always,
         )
     }
 
@@ -233,7 +225,7 @@ impl<'a> Asked<'a> {
     fn rehearse_on<W: Write>(
         &self,
         alloc: Global,
-        image: &[u8],
+        volume: OpenedVolume,
         pruning: &Pruning,
         zone: &TimeZone<'_>,
         printer: &mut Printer<W>,
@@ -245,7 +237,7 @@ impl<'a> Asked<'a> {
         if pruning.going.is_empty() {
             return Ok(());
         }
-        let next = self.next(alloc, image, pruning)?;
+        let next = self.next(alloc, volume, pruning)?;
         tell_clean(alloc, self.path, next.as_slice(), "would be", printer)
     }
 
@@ -255,10 +247,8 @@ impl<'a> Asked<'a> {
         clock: &Clock<'_>,
         printer: &mut Printer<W>,
     ) -> Result<Outcome, Fault> {
-        let image = read_image(rt, self.path)?;
-        let image = image.as_slice();
-        let pruning = self.pruning(rt, image, clock, false)?;
-        self.rehearse_on(rt.alloc(), image, &pruning, &clock.zone, printer)?;
+        let (volume, pruning) = self.pruning(rt, clock, false)?;
+        self.rehearse_on(rt.alloc(), volume, &pruning, &clock.zone, printer)?;
         Ok(Outcome::Done)
     }
 
@@ -288,7 +278,7 @@ impl<'a> Asked<'a> {
     fn prune_image<W: Write>(
         &self,
         rt: &HostRuntime,
-        image: &[u8],
+        volume: OpenedVolume,
         pruning: &Pruning,
         zone: &TimeZone<'_>,
         place: &mut SavePlace<'_>,
@@ -298,7 +288,7 @@ impl<'a> Asked<'a> {
             writeln!(printer.out, "0 checkpoints removed")?;
             return Ok(Outcome::Done);
         }
-        let next = self.next(rt.alloc(), image, pruning)?;
+        let next = self.next(rt.alloc(), volume, pruning)?;
         let news = self.told_of(rt.alloc(), pruning, next.as_slice(), zone)?;
         news.save(rt, self.path, place, next.as_slice(), printer)
     }
@@ -310,10 +300,8 @@ impl<'a> Asked<'a> {
         place: &mut SavePlace<'_>,
         printer: &mut Printer<W>,
     ) -> Result<Outcome, Fault> {
-        let image = read_image(rt, self.path)?;
-        let image = image.as_slice();
-        let pruning = self.pruning(rt, image, clock, true)?;
-        self.prune_image(rt, image, &pruning, &clock.zone, place, printer)
+        let (volume, pruning) = self.pruning(rt, clock, true)?;
+        self.prune_image(rt, volume, &pruning, &clock.zone, place, printer)
     }
 }
 

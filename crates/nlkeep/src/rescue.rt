@@ -3,7 +3,6 @@ use crate::asking::{Outcome, word};
 use crate::complaining::complain;
 use crate::faults::{Fault, fault_at, system_fault, volume_fault};
 use crate::image_files::{Purpose, read_for};
-use crate::images::pen_of;
 use crate::manifests::tell_bad_manifests;
 use crate::printing::{Printer, errors, tell_paths_left_out, tell_refused};
 use crate::restore::{Put, make_new, put_told};
@@ -13,6 +12,7 @@ use nl_damage::sums::Comparison;
 use nl_damage::{Doubt, Doubts, ImagePages, Ruin, Sections};
 use nl_folders::{Path, Tree};
 use nl_host::{Manner, Reason};
+use nl_keep_pen::OpenedVolume;
 use nl_layout::CheckpointEntry;
 use nl_manifests::{LineFault, Opened, open};
 use nl_pins::{is_of_pins, without_pins};
@@ -279,7 +279,7 @@ impl Rescuing<'_> {
 
 /// Whether the bytes at a path are those of a sound image, as far as its conditions and its sum tell.
 fn is_sound(rt: &HostRuntime, path: &str, image: &[u8]) -> Result<bool, Fault> {
-    if pen_of(rt.alloc(), image).is_err() {
+    if OpenedVolume::open(rt.alloc(), image).is_err() {
         return Ok(false);
     }
     let sum_path = sum_path(rt, path)?;

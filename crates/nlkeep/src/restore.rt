@@ -1,14 +1,20 @@
 //! `restore`: a checkpoint's tree is laid out in a folder of the host.
 use crate::asking::{Clock, Outcome, word};
+use crate::checkpoints::kept_number;
 use crate::faults::{Fault, fault_at, system_fault};
+use crate::hosting::{ReadImage, refusal_fault};
 use crate::manifests::tell_bad_manifests;
-use crate::parts::{part_wanted, path_said};
-use crate::printing::{Printer, errors, tell_left_out, tell_refused_below};
-use crate::views::View;
+use crate::parts::path_said;
+use crate::printing::{Printer, errors, tell_left_out, tell_refused};
+use crate::views::tell_late;
 use clap::ArgMatches;
-use nl_folders::Path;
+use nl_backups::{Asker, HostFault, Refusal, Target};
+use nl_folders::{Name, Path};
 use nl_host::{Laid, Manner, Refused, lay_out};
-use nl_manifests::{HostEntry, Opened};
+use nl_keep_pen::OpenedVolume;
+use nl_manifests::{HostEntry, HostTree, Opened};
+use nl_types::{CheckpointNumber, Row};
+use std::alloc::Global;
 use std::fs::{self, DirBuilder};
 use std::io::{self, ErrorKind, Write};
 use std::os::unix::fs::DirBuilderExt;
@@ -132,27 +138,155 @@ pub fn put_told(rt: &HostRuntime, folder: &str, part: &[(Path, HostEntry)], mann
     }
 }
 
-/// Lays out what a checkpoint shows, or what lies at and below a path of it. The folder is made last of all
-/// that may be refused. Where it has to do with a manifest that is none, what is of no known mode is its
-/// owner's alone.
+/// The checkpoint that a word means.
+#[derive(Drop)]
+struct Wished<'r, 'c, 'z, 'w> {
+    rt: &'r HostRuntime,
+    clock: &'c Clock<'z>,
+    path: &'w str,
+    word: &'w str,
+    fault: Option<Fault>,
+}
+
+impl Wished<'_, '_, '_, '_> {
+    /// Its number. A late date is told first.
+    fn number_said(&self, rows: &[Row]) -> Result<CheckpointNumber, Fault> {
+        tell_late(self.rt, self.path, rows, self.clock)?;
+        kept_number(self.rt.alloc(), self.word, rows, self.clock)
+    }
+}
+
+impl Asker<CheckpointNumber> for Wished<'_, '_, '_, '_> {
+    fn asked(&mut self, _: &OpenedVolume, rows: &[Row]) -> Result<CheckpointNumber, HostFault> {
+        match self.number_said(rows) {
+            Ok(number) => Ok(number),
+            Err(fault) => {
+                self.fault = Some(fault);
+                Err(HostFault)
+            }
+        }
+    }
+}
+
+/// The folder of the host in which a tree is laid out. It is made last of all that may be refused.
+#[derive(Drop)]
+struct NewFolder<'r, 'w, 't> {
+    rt: &'r HostRuntime,
+    folder: &'w str,
+    top: &'t [Name],
+    with_owners: bool,
+    /// Whether no manifest has to do with it that is none. Else what is of no known mode is its owner's
+    /// alone.
+    are_good: bool,
+    /// Whether nothing was left out.
+    is_whole: bool,
+    fault: Option<Fault>,
+}
+
+impl<'r, 'w, 't> NewFolder<'r, 'w, 't> {
+    /// The one that a command names, for what lies at and below a path.
+    fn named(
+        rt: &'r HostRuntime,
+        matches: &ArgMatches<'w>,
+        top: &'t [Name],
+    ) -> NewFolder<'r, 'w, 't> {
+        NewFolder {
+            rt,
+            folder: word(matches, "FOLDER"),
+            top,
+            with_owners: matches.get_flag("owners"),
+            are_good: true,
+            is_whole: true,
+            fault: None,
+        }
+    }
+
+    fn put(&mut self, part: &[(Path, HostEntry)]) -> Result<(), Fault> {
+        let manner = Manner {
+            with_owners: self.with_owners,
+            is_private: !self.are_good,
+        };
+        make_folder(self.rt, self.folder, part, manner)?;
+        if put_told(self.rt, self.folder, part, manner) != Put::Whole {
+            self.is_whole = false;
+        }
+        Ok(())
+    }
+}
+
+impl Target for NewFolder<'_, '_, '_> {
+    ghost use Rattle.std.specs.Prelude.{None};
+
+    ghost laid = { λ t. None };
+
+    fn look(&mut self, shown: &Opened) -> Result<(), HostFault> {
+        self.are_good = tell_bad_manifests(self.rt, shown.tree.as_slice(), self.top, None);
+        let is_told_whole = tell_refused(self.rt, shown.refused.as_slice(), self.top);
+        self.is_whole = self.are_good && is_told_whole;
+        Ok(())
+    }
+
+    fn lay_out(&mut self, tree: HostTree) -> Result<(), HostFault> {
+        match self.put(tree.as_slice()) {
+            Ok(()) => Ok(()),
+            Err(fault) => {
+                self.fault = Some(fault);
+                Err(HostFault)
+            }
+        }
+    }
+}
+
+/// Why nothing is laid out.
+fn restore_fault(
+    alloc: Global,
+    path: &str,
+    top: &str,
+    known: Option<Fault>,
+    refusal: Refusal,
+) -> Fault {
+    match refusal {
+        Refusal::NothingThere => fault_at(alloc, top, "nothing is there"),
+        refusal => refusal_fault(alloc, path, known, refusal),
+    }
+}
+
+/// Lays out what a checkpoint shows, or what lies at and below a path of it.
 pub fn restore(
     rt: &HostRuntime,
     matches: &ArgMatches<'_>,
     clock: &Clock<'_>,
-    view: &View<'_>,
 ) -> Result<Outcome, Fault> {
-    let alloc = rt.alloc();
-    let folder = word(matches, "FOLDER");
-    let top = word(matches, "path");
-    let Opened { tree, refused } = view.opened(alloc, word(matches, "CNO"), clock)?;
-    let are_good = tell_bad_manifests(rt, tree.as_slice(), path_said(alloc, top)?.as_slice(), None);
-    let part = part_wanted(alloc, tree, top)?;
-    let manner = Manner {
-        with_owners: matches.get_flag("owners"),
-        is_private: !are_good,
+    let (alloc, path, top) = (rt.alloc(), word(matches, "IMAGE"), word(matches, "path"));
+    let names = path_said(alloc, top)?;
+    let mut image = ReadImage {
+        rt,
+        path,
+        fault: None,
     };
-    make_folder(rt, folder, part.as_slice(), manner)?;
-    let put = put_told(rt, folder, part.as_slice(), manner);
-    let is_told_whole = tell_refused_below(rt, refused.as_slice(), top)?;
-    Ok(Outcome::of(is_told_whole && are_good && put == Put::Whole))
+    let mut wished = Wished {
+        rt,
+        clock,
+        path,
+        word: word(matches, "CNO"),
+        fault: None,
+    };
+    let mut folder = NewFolder::named(rt, matches, names.as_slice());
+    match nl_backups::restore(
+        alloc,
+        &mut image,
+        &mut wished,
+        names.as_slice(),
+        &mut folder,
+    ) {
+        Ok(_) => Ok(Outcome::of(folder.is_whole)),
+        Err(refusal) => {
+            let known = image
+                .fault
+                .take()
+                .or(wished.fault.take())
+                .or(folder.fault.take());
+            Err(restore_fault(alloc, path, top, known, refusal))
+        }
+    }
 }

@@ -1,9 +1,8 @@
 //! `revert`: a file or a folder of a checkpoint comes back into the current tree.
 use crate::asking::{Clock, Outcome, word};
 use crate::faults::{Fault, fault_at};
-use crate::grafting::{GraftError, grafted};
 use crate::images::take_place;
-use crate::manifests::tell_bad_manifests;
+use crate::manifests::{tell_bad_manifests, with_lost};
 use crate::parts::path_said;
 use crate::printing::{Printer, tell_refused};
 use crate::progress::Progress;
@@ -11,16 +10,18 @@ use crate::storing::{Gathered, Keeping};
 use crate::unpacking::sealed;
 use crate::views::View;
 use clap::ArgMatches;
-use nl_folders::{Name, Tree, find_in};
+use nl_folders::{Name, Tree};
 use nl_manifests::{HostTree, Opened, open};
 use nl_saving::SavePlace;
+use nl_shown::{RevertError, reverted};
 use std::alloc::Global;
 use std::io::Write;
 
-fn graft_fault(alloc: Global, word: &str, error: GraftError) -> Fault {
+fn revert_fault(alloc: Global, word: &str, error: RevertError) -> Fault {
     match error {
-        GraftError::Memory => Fault::Memory,
-        GraftError::NoFolder => fault_at(alloc, word, "lies below what is no folder now"),
+        RevertError::Memory => Fault::Memory,
+        RevertError::NothingThere => fault_at(alloc, word, "nothing is there"),
+        RevertError::NoFolder => fault_at(alloc, word, "lies below what is no folder now"),
     }
 }
 
@@ -32,12 +33,9 @@ fn tree_with(
     later: HostTree,
     earlier: HostTree,
 ) -> Result<Tree, Fault> {
-    if find_in(earlier.as_slice(), top).is_none() {
-        return Err(fault_at(alloc, word, "nothing is there"));
-    }
-    match grafted(alloc, later, earlier, top) {
+    match reverted(alloc, later, earlier, top) {
         Ok(tree) => sealed(alloc, word, tree.as_slice(), "a file .nlkeep is in the way"),
-        Err(error) => Err(graft_fault(alloc, word, error)),
+        Err(error) => Err(revert_fault(alloc, word, error)),
     }
 }
 
@@ -48,7 +46,8 @@ fn opened_latest(alloc: Global, view: &View<'_>) -> Result<Opened, Fault> {
 }
 
 /// The later of two trees, in which what a word says stands as in the earlier one. Lines of manifests that
-/// show nothing are told.
+/// show nothing are told. Where a manifest is none, nothing that comes back is anybody's who could not read
+/// it.
 fn gathered_of(
     rt: &HostRuntime,
     word: &str,
@@ -59,7 +58,12 @@ fn gathered_of(
     let top = path_said(alloc, word)?;
     let are_good = tell_bad_manifests(rt, earlier.tree.as_slice(), top.as_slice(), None);
     let are_rest_good = tell_bad_manifests(rt, later.tree.as_slice(), &[], None);
-    let tree = tree_with(alloc, word, top.as_slice(), later.tree, earlier.tree)?;
+    let earlier_tree = if are_good {
+        earlier.tree
+    } else {
+        with_lost(alloc, earlier.tree, later.tree.as_slice(), top.as_slice())?
+    };
+    let tree = tree_with(alloc, word, top.as_slice(), later.tree, earlier_tree)?;
     let is_part_whole = tell_refused(rt, earlier.refused.as_slice(), top.as_slice()) && are_good;
     let is_rest_whole = tell_refused(rt, later.refused.as_slice(), &[]) && are_rest_good;
     Ok(Gathered {
@@ -73,11 +77,11 @@ fn gathered(
     rt: &HostRuntime,
     matches: &ArgMatches<'_>,
     clock: &Clock<'_>,
+    view: &View<'_>,
 ) -> Result<Gathered, Fault> {
     let alloc = rt.alloc();
-    let view = View::at(rt, word(matches, "IMAGE"))?;
     let earlier = view.opened(alloc, word(matches, "CNO"), clock)?;
-    let later = opened_latest(alloc, &view)?;
+    let later = opened_latest(alloc, view)?;
     gathered_of(rt, word(matches, "PATH"), later, earlier)
 }
 
@@ -90,8 +94,9 @@ fn revert_into<W: Write>(
 ) -> Result<Outcome, Fault> {
     let keeping = Keeping::said(rt, matches, clock)?;
     let mut progress = Progress::begin(rt, matches);
-    let gathered = gathered(rt, matches, clock)?;
-    keeping.keep_gathered(rt, clock, gathered, &mut progress, place, printer)
+    let held = keeping.held(rt, clock)?;
+    let gathered = gathered(rt, matches, clock, &held.view)?;
+    keeping.keep_gathered(rt, held, gathered, &mut progress, place, printer)
 }
 
 /// Keeps the current tree as the next snapshot, in which a file or a folder stands as a checkpoint has it.

@@ -19,7 +19,7 @@ const MOST_BYTES: u64 = VOLUME_BLOCK_LIMIT as u64 * BLOCK_SIZE as u64;
 
 /// The folder that is to be kept.
 #[derive(Clone, Copy)]
-pub struct Source<'a> {
+pub struct Selected<'a> {
     pub folder: &'a str,
     /// What a person left out.
     pub excluded: &'a [Pattern<'a>],
@@ -30,13 +30,12 @@ pub struct Source<'a> {
 }
 
 /// What is said of a folder that was other in the end than in the beginning.
-const CHANGED: &str = "changed while it was read";
+pub const CHANGED: &str = "changed while it was read";
 
 /// What was found in a folder.
 #[derive(Drop)]
 pub struct Scan {
-    /// The tree of a volume that shows it.
-    pub tree: Tree,
+    pub folder: HostTree,
     pub left_out: Vec<LeftOut>,
 }
 
@@ -147,6 +146,11 @@ fn judge_files(
     Ok(())
 }
 
+/// The tree of a volume that keeps what was read of a folder, without pins.
+pub fn kept_tree(alloc: Global, path: &str, folder: HostTree) -> Result<Tree, Fault> {
+    sealed(alloc, path, folder.as_slice(), CHANGED)
+}
+
 /// What is to be kept of what was read of a folder, and what is left out.
 fn scan_of(
     alloc: Global,
@@ -155,9 +159,8 @@ fn scan_of(
     left_out: Vec<LeftOut>,
 ) -> Result<Scan, Fault> {
     let mut left_out = left_out;
-    let tree = without_reserved(alloc, folder, tree, &mut left_out)?;
-    let tree = sealed(alloc, folder, tree.as_slice(), CHANGED)?;
-    Ok(Scan { tree, left_out })
+    let folder = without_reserved(alloc, folder, tree, &mut left_out)?;
+    Ok(Scan { folder, left_out })
 }
 
 /// All that is to be kept of a folder, and what is left out.
@@ -196,20 +199,20 @@ fn root_of(rt: &HostRuntime, folder: &str) -> Result<PathBuf, Fault> {
 /// All that is to be kept of a folder but what a person left out. `image` is where the volume's image stands.
 pub fn scan_folder(
     rt: &HostRuntime,
-    source: Source<'_>,
+    selected: Selected<'_>,
     image: &str,
     progress: &mut Progress<'_>,
 ) -> Result<Scan, Fault> {
-    let root = root_of(rt, source.folder)?;
+    let root = root_of(rt, selected.folder)?;
     let own = OwnFiles::of(rt, image)?;
     let systems = system_devices(rt)?;
     let selection = Selection {
-        excluded: source.excluded,
+        excluded: selected.excluded,
         image: own.image.as_slice(),
         sides: own.sides.as_slice(),
-        is_one_system: source.is_one_system,
+        is_one_system: selected.is_one_system,
         systems: systems.as_slice(),
     };
     let root = root.as_path().as_str();
-    scan_below(rt, root, &selection, source.is_plain, progress)
+    scan_below(rt, root, &selection, selected.is_plain, progress)
 }

@@ -3,16 +3,17 @@ use crate::asking::{Clock, Outcome, moment, most, word};
 use crate::comparing::tell_differences;
 use crate::faults::{Fault, fault_at, volume_fault};
 use crate::fullness::full_fault;
-use crate::images::{device_for, read_image};
+use crate::images::read_image;
 use crate::printing::{Printer, last_line};
 use crate::progress::Progress;
 use crate::sizes::Size;
 use crate::telling::{News, done_as};
 use crate::views::{Made, View};
 use clap::ArgMatches;
+use nl_backups::Terms;
 use nl_folders::{Path, Tree};
 use nl_keep::{KeepError, Stored};
-use nl_keep_pen::{Effort, Room, backup_image};
+use nl_keep_pen::OpenedVolume;
 use nl_pins::with_pins;
 use nl_saving::SavePlace;
 use nl_types::{Object, VolError};
@@ -36,14 +37,6 @@ pub struct Stores {
     pub image: Vec<u8>,
     /// How many bytes the volume had, and what it has where it was grown.
     pub grown: Option<(u64, u64)>,
-}
-
-/// What trying to store a tree came to.
-#[derive(Drop)]
-enum Kept {
-    /// The image that is to stand in the old one's place.
-    Stored(Stored, Vec<u8>),
-    NoSpace,
 }
 
 /// What takes away the line of a terminal.
@@ -86,11 +79,12 @@ fn tell_stored<W: Write>(
     Ok(())
 }
 
-/// What is told of a tree that is stored. It is put together before anything is saved, as behind that nothing
-/// may be refused.
+/// What is told of a tree that is stored, where the volume may have grown. It is put together before anything
+/// is saved, as behind that nothing may be refused.
 fn told_of(
     alloc: Global,
-    stores: &Stores,
+    stored: &Stored,
+    grown: Option<(u64, u64)>,
     tree: &[(Path, Object)],
     is_terminal: bool,
 ) -> Result<News, Fault> {
@@ -98,54 +92,36 @@ fn told_of(
         out: Vec::new(alloc),
         is_terminal,
     };
-    tell_growth(stores.grown, &mut printer)?;
-    tell_stored(alloc, &stores.stored, tree, &mut printer)?;
+    tell_growth(grown, &mut printer)?;
+    tell_stored(alloc, stored, tree, &mut printer)?;
     let text = printer.out;
-    let done = done_as(alloc, stores.stored.number.get())?;
+    let done = done_as(alloc, stored.number.get())?;
     Ok(News { text, done })
 }
 
-/// Stores a tree in the volume of an image, and answers the image that is to stand in its place.
-fn attempt(
+/// Stores a tree in the volume of an image, which was opened, with more effort where there is no room.
+pub fn store_in(
     alloc: Global,
     path: &str,
     image: &[u8],
+    volume: OpenedVolume,
     wanted: &Wanted,
-    room: &mut Room<'_>,
-) -> Result<Kept, Fault> {
-    let device = device_for(alloc, path, image)?;
-    match backup_image(
-        alloc,
-        image,
-        device,
-        wanted.tree.as_slice(),
-        wanted.moment,
-        room,
-    ) {
-        Ok((stored, next)) => Ok(Kept::Stored(stored, next)),
-        Err(KeepError::Refused(VolError::NoSpace)) => Ok(Kept::NoSpace),
-        Err(error) => Err(keep_fault(alloc, path, error)),
-    }
-}
-
-/// Stores a tree in the volume of an image. Where there is no room, it is tried again behind a round of
-/// cleaning in a greater volume, and then in the greatest.
-pub fn store_in(alloc: Global, path: &str, image: &[u8], wanted: &Wanted) -> Result<Stores, Fault> {
-    let mut room = Room::new(alloc, wanted.tree.as_slice(), wanted.moment, wanted.most);
-    let mut kept = attempt(alloc, path, image, wanted, &mut room)?;
-    for effort in [Effort::Greater, Effort::Greatest] {
-        if matches!(kept, Kept::NoSpace) {
-            room.effort = effort;
-            kept = attempt(alloc, path, image, wanted, &mut room)?;
-        }
-    }
-    match kept {
-        Kept::Stored(stored, next) => Ok(Stores {
+) -> Result<Stores, Fault> {
+    let (tree, most) = (wanted.tree.as_slice(), wanted.most);
+    let terms = Terms {
+        moment: wanted.moment,
+        most,
+    };
+    match nl_backups::store_in(alloc, image, volume, tree, terms) {
+        Ok((stored, image, grown)) => Ok(Stores {
             stored,
-            image: next,
-            grown: room.grown,
+            image,
+            grown,
         }),
-        Kept::NoSpace => Err(full_fault(alloc, path, image, wanted)),
+        Err(KeepError::Refused(VolError::NoSpace)) => Err(full_fault(
+            alloc, path, image, tree, most,
+        )),
+        Err(error) => Err(keep_fault(alloc, path, error)),
     }
 }
 
@@ -159,6 +135,13 @@ pub struct Keeping<'a> {
     pub most: u64,
     /// Whether only the last line is told.
     pub is_quiet: bool,
+}
+
+/// An image, and its volume.
+#[derive(Drop)]
+pub struct Held<'a> {
+    pub image: Vec<u8>,
+    pub view: View<'a>,
 }
 
 /// A tree that is to be kept beside the pins of a volume.
@@ -191,6 +174,13 @@ impl<'a> Keeping<'a> {
         })
     }
 
+    pub fn terms(&self) -> Terms {
+        Terms {
+            moment: self.moment,
+            most: self.most,
+        }
+    }
+
     pub fn wanted(&self, tree: Tree) -> Wanted {
         Wanted {
             tree,
@@ -199,32 +189,32 @@ impl<'a> Keeping<'a> {
         }
     }
 
-    /// A tree that has no pins, beside those of the volume. A late date is told.
-    fn beside_pins(
-        &self,
-        rt: &HostRuntime,
-        clock: &Clock<'_>,
-        image: &[u8],
-        tree: Tree,
-    ) -> Result<Wanted, Fault> {
-        let alloc = rt.alloc();
-        let view = View::of(rt, self.path, image, clock)?;
+    /// The image, and its volume, which is opened. A late date is told.
+    pub fn held(&self, rt: &HostRuntime, clock: &Clock<'_>) -> Result<Held<'a>, Fault> {
+        let image = read_image(rt, self.path)?;
+        let view = View::of(rt, self.path, image.as_slice(), clock)?;
         view.tell_earlier(rt, clock, self.moment, Made::Checkpoint)?;
+        Ok(Held { image, view })
+    }
+
+    /// A tree that has no pins, beside those of the volume.
+    fn beside_pins(&self, alloc: Global, view: &View<'_>, tree: Tree) -> Result<Wanted, Fault> {
         let pins = view.pins_file(alloc)?;
         Ok(self.wanted(with_pins(alloc, pins, tree)?))
     }
 
     /// What is told of a tree that is stored, as far as a person wants to know. At a terminal it takes the
     /// place of what is told of the work.
-    fn told_of(
+    pub fn told_of(
         &self,
         alloc: Global,
-        stores: &Stores,
+        stored: &Stored,
+        grown: Option<(u64, u64)>,
         tree: &[(Path, Object)],
         progress: &Progress<'_>,
         is_terminal: bool,
     ) -> Result<News, Fault> {
-        let News { text, done } = told_of(alloc, stores, tree, is_terminal)?;
+        let News { text, done } = told_of(alloc, stored, grown, tree, is_terminal)?;
         let text = if self.is_quiet {
             Vec::from_slice(alloc, last_line(text.as_slice()))?
         } else if is_terminal && progress.is_shown() {
@@ -240,17 +230,30 @@ impl<'a> Keeping<'a> {
     fn store<W: Write>(
         &self,
         rt: &HostRuntime,
-        image: &[u8],
+        held: Held<'_>,
         wanted: &Wanted,
         progress: &mut Progress<'_>,
         place: &mut SavePlace<'_>,
         printer: &mut Printer<W>,
     ) -> Result<Outcome, Fault> {
         let (alloc, tree) = (rt.alloc(), wanted.tree.as_slice());
-        let stores = store_in(alloc, self.path, image, wanted)?;
+        let Held { image, view } = held;
+        let stores = store_in(
+            alloc,
+            self.path,
+            image.as_slice(),
+            view.into_volume(),
+            wanted,
+        )?;
         progress.tell("digesting and saving");
-        let news = self.told_of(alloc, &stores, tree, progress, printer.is_terminal)?;
-        news.save(rt, self.path, place, stores.image.as_slice(), printer)
+        let Stores {
+            stored,
+            image,
+            grown,
+        } = stores;
+        let is_terminal = printer.is_terminal;
+        let news = self.told_of(alloc, &stored, grown, tree, progress, is_terminal)?;
+        news.save(rt, self.path, place, image.as_slice(), printer)
     }
 
     /// Stores a tree that has no pins, beside those of the volume, and saves the image. Answers whether its
@@ -258,30 +261,29 @@ impl<'a> Keeping<'a> {
     fn keep<W: Write>(
         &self,
         rt: &HostRuntime,
-        clock: &Clock<'_>,
+        held: Held<'_>,
         tree: Tree,
         progress: &mut Progress<'_>,
         place: &mut SavePlace<'_>,
         printer: &mut Printer<W>,
     ) -> Result<Outcome, Fault> {
-        let image = read_image(rt, self.path)?;
-        let wanted = self.beside_pins(rt, clock, image.as_slice(), tree)?;
+        let wanted = self.beside_pins(rt.alloc(), &held.view, tree)?;
         progress.tell("storing");
-        self.store(rt, image.as_slice(), &wanted, progress, place, printer)
+        self.store(rt, held, &wanted, progress, place, printer)
     }
 
     /// The same of a tree of which something may be left out, with what is told of the work.
     pub fn keep_gathered<W: Write>(
         &self,
         rt: &HostRuntime,
-        clock: &Clock<'_>,
+        held: Held<'_>,
         gathered: Gathered,
         progress: &mut Progress<'_>,
         place: &mut SavePlace<'_>,
         printer: &mut Printer<W>,
     ) -> Result<Outcome, Fault> {
         let Gathered { tree, is_whole } = gathered;
-        let kept = self.keep(rt, clock, tree, progress, place, printer);
+        let kept = self.keep(rt, held, tree, progress, place, printer);
         if kept.is_err() || !printer.is_terminal {
             progress.end();
         }

@@ -47,6 +47,14 @@ impl News {
     }
 }
 
+/// Tells what was put together, if anything was.
+pub fn tell_news<W: Write>(news: Option<News>, printer: &mut Printer<W>) -> Result<(), Fault> {
+    match news {
+        Some(news) => news.tell(printer),
+        None => Ok(()),
+    }
+}
+
 /// What a person is told of so many checkpoints, of which this was done.
 pub fn done_to(alloc: Global, count: u64, what: &str) -> Result<String, AllocError> {
     let are = if count == 1 { " is" } else { "s are" };

@@ -183,6 +183,15 @@ fn take_notes(notes: Items<Note>, left_out: &mut Items<(Path, Unkept)>) -> Resul
 
 // ---- all of it
 
+/// Why no tree of a volume shows one of the host.
+pub fn seal_fault(alloc: Global, path: &str, error: SealError, unshown: &str) -> Fault {
+    match error {
+        SealError::Memory => Fault::Memory,
+        SealError::Unshown => fault_at(alloc, path, unshown),
+        SealError::TooBig => fault_at(alloc, path, TOO_MANY),
+    }
+}
+
 /// The tree of a volume that shows one of the host.
 pub fn sealed(
     alloc: Global,
@@ -192,9 +201,7 @@ pub fn sealed(
 ) -> Result<Tree, Fault> {
     match seal(alloc, tree) {
         Ok(tree) => Ok(tree),
-        Err(SealError::Memory) => Err(Fault::Memory),
-        Err(SealError::Unshown) => Err(fault_at(alloc, path, unshown)),
-        Err(SealError::TooBig) => Err(fault_at(alloc, path, TOO_MANY)),
+        Err(error) => Err(seal_fault(alloc, path, error, unshown)),
     }
 }
 

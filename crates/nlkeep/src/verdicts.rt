@@ -240,8 +240,8 @@ fn tell_conditions<W: Write>(
     Ok(())
 }
 
-/// Tells what is found of an image: an object of all of it, one of each condition that is told, and one of each
-/// segment that differs from the sum.
+/// Tells what is found of an image: an object of all of it, one of each condition that is told, and one of
+/// each segment that differs from the sum.
 pub fn tell_objects<W: Write>(
     alloc: Global,
     told: &Told<'_>,

@@ -1,9 +1,9 @@
 //! The volume of an image that is looked at, and its trees.
 use crate::amounts::size_at;
 use crate::asking::Clock;
-use crate::checkpoints::{meant, rows};
+use crate::checkpoints::kept_number;
 use crate::complaining::complain;
-use crate::faults::{Fault, fault_at, told, tree_fault, volume_fault};
+use crate::faults::{Fault, fault_at, read_fault, told, tree_fault, volume_fault};
 use crate::images::{open_image, read_image};
 use crate::moments::shown;
 use crate::parts::path_said;
@@ -11,10 +11,10 @@ use crate::printing::Seen;
 use nl_core::Pen;
 use nl_device::MemDevice;
 use nl_folders::{Folder, FolderError, Name, Path, Tree, copied, find_in};
-use nl_keep::{CheckpointFolder, checkpoint_tree};
-use nl_keep_pen::{PenVolume, is_manifest_path, unread_tree};
+use nl_keep::CheckpointFolder;
+use nl_keep_pen::{OpenedVolume, PenVolume, is_manifest_path, unread_tree};
 use nl_manifests::{HostEntry, HostObject, HostTree, Opened, open};
-use nl_pins::{Pins, is_of_pins, path_of_pins, without_pins};
+use nl_pins::{Pins, is_of_pins, without_pins};
 use nl_types::{CheckpointNumber, Items, Object, Row, VolError};
 use std::alloc::{AllocError, Global};
 
@@ -23,7 +23,7 @@ use std::alloc::{AllocError, Global};
 pub struct View<'a> {
     /// Where the image stands.
     pub path: &'a str,
-    volume: Box<PenVolume<MemDevice>>,
+    volume: OpenedVolume,
     /// What is told of its checkpoints, of the minor ones too.
     pub rows: Items<Row>,
 }
@@ -54,12 +54,59 @@ pub fn latest_stamp(rows: &[Row]) -> u64 {
     }
 }
 
+/// Tells a person that the latest checkpoint of a volume is later than the clock, where it is. `path` is
+/// where its image stands.
+pub fn tell_late(
+    rt: &HostRuntime,
+    path: &str,
+    rows: &[Row],
+    clock: &Clock<'_>,
+) -> Result<(), Fault> {
+    let latest = latest_stamp(rows);
+    if latest > clock.now {
+        let date = shown(rt.alloc(), &clock.zone, latest)?;
+        complain(
+            rt,
+            format_args!(
+                "{path}: the latest checkpoint is of {date}, which the clock has not reached"
+            ),
+        );
+    }
+    Ok(())
+}
+
+/// Tells a person that the latest checkpoint is later than the moment that is asked for, where it is: what is
+/// made has its date. Where the clock has not reached that either, it is told as such.
+pub fn tell_earlier(
+    rt: &HostRuntime,
+    path: &str,
+    rows: &[Row],
+    clock: &Clock<'_>,
+    moment: u64,
+    made: Made,
+) -> Result<(), Fault> {
+    let latest = latest_stamp(rows);
+    if moment < latest && latest <= clock.now {
+        let date = shown(rt.alloc(), &clock.zone, latest)?;
+        let what = made.text();
+        complain(
+            rt,
+            format_args!(
+                "{path}: the latest checkpoint is of {date}, later than --at, so {what} is too"
+            ),
+        );
+    }
+    Ok(())
+}
+
 impl<'a> View<'a> {
     /// What is to be seen of the volume of an image. `path` is where that stands.
     pub fn silent(alloc: Global, path: &'a str, image: &[u8]) -> Result<View<'a>, Fault> {
         let mut volume = open_image(alloc, path, image)?;
-        let rows = rows(alloc, path, &mut volume.pen)?;
-        Ok(View { path, volume, rows })
+        match volume.rows() {
+            Ok(rows) => Ok(View { path, volume, rows }),
+            Err(error) => Err(volume_fault(alloc, path, error)),
+        }
     }
 
     /// The same of the image at a path.
@@ -80,24 +127,18 @@ impl<'a> View<'a> {
         Ok(view)
     }
 
-    /// Tells a person that the latest checkpoint is later than the clock, where it is.
-    pub fn tell_late(&self, rt: &HostRuntime, clock: &Clock<'_>) -> Result<(), Fault> {
-        let latest = latest_stamp(self.rows.as_slice());
-        if latest > clock.now {
-            let date = shown(rt.alloc(), &clock.zone, latest)?;
-            let path = self.path;
-            complain(
-                rt,
-                format_args!(
-                    "{path}: the latest checkpoint is of {date}, which the clock has not reached"
-                ),
-            );
-        }
-        Ok(())
+    /// The same of the image at a path.
+    pub fn read(rt: &HostRuntime, path: &'a str, clock: &Clock<'_>) -> Result<View<'a>, Fault> {
+        let image = read_image(rt, path)?;
+        View::of(rt, path, image.as_slice(), clock)
     }
 
-    /// Tells a person that the latest checkpoint is later than the moment that is asked for, where it is: what
-    /// is made has its date. Where the clock has not reached that either, it is told as such.
+    /// Tells a person that the latest checkpoint is later than the clock, where it is.
+    pub fn tell_late(&self, rt: &HostRuntime, clock: &Clock<'_>) -> Result<(), Fault> {
+        tell_late(rt, self.path, self.rows.as_slice(), clock)
+    }
+
+    /// The same where it is later than the moment that is asked for.
     pub fn tell_earlier(
         &self,
         rt: &HostRuntime,
@@ -105,22 +146,21 @@ impl<'a> View<'a> {
         moment: u64,
         made: Made,
     ) -> Result<(), Fault> {
-        let latest = latest_stamp(self.rows.as_slice());
-        if moment < latest && latest <= clock.now {
-            let date = shown(rt.alloc(), &clock.zone, latest)?;
-            let (path, what) = (self.path, made.text());
-            complain(
-                rt,
-                format_args!(
-                    "{path}: the latest checkpoint is of {date}, later than --at, so {what} is too"
-                ),
-            );
-        }
-        Ok(())
+        tell_earlier(rt, self.path, self.rows.as_slice(), clock, moment, made)
     }
 
     pub fn volume(&self) -> &PenVolume<MemDevice> {
-        self.volume.as_ref()
+        self.volume.volume()
+    }
+
+    /// The volume itself, of which nothing more is looked at.
+    pub fn into_volume(self) -> OpenedVolume {
+        self.volume
+    }
+
+    /// The same, and what was told of its checkpoints.
+    pub fn into_parts(self) -> (OpenedVolume, Items<Row>) {
+        (self.volume, self.rows)
     }
 
     pub fn pen(&self) -> &Pen<MemDevice> {
@@ -134,30 +174,23 @@ impl<'a> View<'a> {
         word: &str,
         clock: &Clock<'_>,
     ) -> Result<CheckpointNumber, Fault> {
-        let number = meant(alloc, word, self.rows.as_slice(), clock)?;
-        match self.pen().cpinfo(number) {
-            Ok(_) => Ok(number),
-            Err(_) => Err(fault_at(alloc, word, "no such checkpoint is kept")),
-        }
+        kept_number(alloc, word, self.rows.as_slice(), clock)
     }
 
     /// The tree of a kept checkpoint, without its pins.
     pub fn tree_of(&self, alloc: Global, number: CheckpointNumber) -> Result<Tree, Fault> {
-        match checkpoint_tree(alloc, self.volume(), number) {
+        match self.volume.tree(alloc, number) {
             Ok(tree) => Ok(without_pins(alloc, tree)?),
-            Err(error) => Err(tree_fault(alloc, self.path, error)),
+            Err(error) => Err(read_fault(alloc, self.path, error)),
         }
     }
 
     /// The bytes of the file that has the pins of the volume, none where there is no such file. Pins are read
     /// of the current tree alone.
     pub fn pins_file(&self, alloc: Global) -> Result<Option<Items<u8>>, Fault> {
-        let path = path_of_pins(alloc)?;
-        let mut folder = self.folder_of(self.pen().latest());
-        match folder.read(alloc, path.as_slice()) {
-            Ok(bytes) => Ok(Some(bytes)),
-            Err(FolderError::Refused(VolError::NotFound | VolError::IsDir)) => Ok(None),
-            Err(error) => Err(tree_fault(alloc, self.path, error)),
+        match self.volume.pins(alloc) {
+            Ok(pins) => Ok(pins),
+            Err(error) => Err(read_fault(alloc, self.path, error)),
         }
     }
 
