@@ -2,5 +2,8 @@ pub mod Commands
 pub mod Effects
 pub mod Hosts
 pub mod Passed
+pub mod Pinning
+pub mod Pruning
+pub mod Readings
 pub mod Refusals
 pub mod Storing

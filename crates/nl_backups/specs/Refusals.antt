@@ -1,5 +1,5 @@
 -- Why a command isn't done. The host alone knows why it doesn't give or take something.
-use Rattle.std.specs.Prelude.{◌≡◌, ◌⊎◌, ℕ, List, [], Option}
+use Rattle.std.specs.Prelude.{◌≡◌, ◌⊎◌, ℕ, List, [], Option, None, Some}
 use Rattle.nl_types.specs.declared.error.VolError.{VolError}
 use Rattle.nl_types.specs.declared.error.VolError.TheVariants.{Fault, Memory}
 use Rattle.nl_types.specs.Plain.Paths.{Path}
@@ -7,19 +7,26 @@ use Rattle.nl_types.specs.Plain.Trees.{Tree}
 use Rattle.nl_types.specs.Plain.Worlds.{World}
 use Rattle.nl_commit.specs.Layout.{Layout, MeansWorld}
 use Rattle.nl_core.specs.Opened.{IsOpenRefusal}
+use Rattle.nl_image.specs.Parts.{with_present_mark}
+use Rattle.nl_manifests.specs.declared.manifest.Line.{Line}
 use Rattle.nl_manifests.specs.HostTrees.{HostTree}
 use Rattle.nl_manifests.specs.Sealed.{RefusesSealing}
+use Rattle.nl_pins.specs.Pins.{text_in}
 use Rattle.nl_pins.specs.Trees.{without_pins}
 use Rattle.nl_shown.specs.Kept.{KeepsFolder}
 use Rattle.nl_shown.specs.Parts.{part_of}
 use Rattle.nl_keep.specs.declared.storing.KeepError.{KeepError}
 use Rattle.nl_keep.specs.declared.storing.KeepError.TheVariants as keep
+use Rattle.nl_keep_pen.specs.Images.{ImageMeans}
 use Rattle.nl_keep_pen.specs.Opened.{IsOpenedOf, RefusesForgetting, RefusesPrepared, RefusesToRead}
 use Rattle.nl_keep_pen.specs.Pins.{HasPins}
+use Rattle.nl_backups.specs.declared.pinning.PinWish.{PinWish}
 use Rattle.nl_backups.specs.declared.refusals.Refusal.{Refusal}
 use Rattle.nl_backups.specs.declared.refusals.Refusal.TheVariants as refusal
 use Rattle.nl_backups.specs.Commands.{ShowsFromImage}
 use Rattle.nl_backups.specs.Hosts.{Holds, Image}
+use Rattle.nl_backups.specs.Pinning.{IsWanted}
+use Rattle.nl_backups.specs.Readings.{HasBadPins, pinned_in}
 
 -- ---- of an image
 
@@ -67,7 +74,7 @@ RefusesFolder moment folder image (refusal.Volume e) =
     RefusesOpening image e ⊎ RefusesToKeep moment folder image (keep.Refused e)
 RefusesFolder moment folder image (refusal.Folder e) = RefusesSealing (without_pins folder) e
 RefusesFolder moment folder image refusal.Disordered = RefusesToKeep moment folder image keep.Disordered
-RefusesFolder moment folder image refusal.NothingThere = ⊥
+RefusesFolder moment folder image _ = ⊥
 
 -- or a checkpoint isn't read
 abbrev pub RefusesLook : Image → Refusal → Type 0
@@ -96,6 +103,48 @@ RefusesRemoval image (refusal.Volume e) =
     RefusesOpening image e
     ⊎ ((numbers : List ℕ) × RefusesOpened (λ w. RefusesForgetting numbers w e) image)
 RefusesRemoval image _ = ⊥
+
+-- the pins aren't read: the file is none, or memory lacks
+abbrev pub RefusesPins : Image → Refusal → Type 0
+RefusesPins image refusal.BadPins = HasBadPins image
+RefusesPins image (refusal.Volume e) = e ≡ Memory
+RefusesPins image _ = ⊥
+
+-- some checkpoints aren't forgotten, or the file of pins is none
+abbrev pub RefusesPruning : Image → Refusal → Type 0
+RefusesPruning image refusal.BadPins = HasBadPins image
+RefusesPruning image e = RefusesRemoval image e
+
+-- there is no pin to be taken off, or memory lacks
+abbrev pub RefusesToChange : PinWish → List Line → Refusal → Type 0
+RefusesToChange wish lines refusal.NotPinned = text_in lines wish.number ≡ None
+RefusesToChange wish lines (refusal.Volume e) = e ≡ Memory
+RefusesToChange wish lines _ = ⊥
+
+-- a checkpoint isn't pinned
+abbrev pub LacksPin : Image → Type 0
+LacksPin image =
+    (n : ℕ) × ((w : World) → ImageMeans (with_present_mark image) w → text_in (pinned_in w) n ≡ None)
+
+-- the current tree isn't read, the file of pins is none, or there is no pin to be taken off
+abbrev pub RefusesChange : Image → Refusal → Type 0
+RefusesChange image refusal.BadPins = HasBadPins image
+RefusesChange image refusal.NotPinned = LacksPin image
+RefusesChange image e = RefusesLook image e
+
+-- or the tree with the changed pin isn't stored
+pub record RefusesPin (moment : ℕ) (image : Image) (e : KeepError) : Type 0 where
+  pub wish : PinWish
+  pub tree : Tree
+  pub wanted : IsWanted moment wish (Some tree) image
+  pub refuses : RefusesImage moment tree image e
+
+abbrev pub RefusesPinning : (moment : ℕ) → Image → Refusal → Type 0
+RefusesPinning moment image (refusal.Volume e) =
+    RefusesChange image (refusal.Volume e) ⊎ RefusesPin moment image (keep.Refused e)
+RefusesPinning moment image refusal.Disordered =
+    RefusesChange image refusal.Disordered ⊎ RefusesPin moment image keep.Disordered
+RefusesPinning moment image e = RefusesChange image e
 
 -- ---- on the host
 

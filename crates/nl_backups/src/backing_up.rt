@@ -1,61 +1,15 @@
 //! `backup`: a folder of the host becomes the next snapshot of an image.
 ghost use Rattle.std.specs.Prelude.{◌≡◌, IfErr, IfOk, OnErr};
-ghost use Rattle.nl_keep_pen.specs.Opened.{IsOpenedOf};
 ghost use Rattle.nl_backups.specs.Commands.{BacksUp, StoresFolder};
-ghost use Rattle.nl_backups.specs.Refusals.{RefusesBackup, RefusesFolder, RefusesImage};
-ghost use Rattle.nl_backups.specs.Storing.{IsStored};
+ghost use Rattle.nl_backups.specs.Refusals.{RefusesBackup, RefusesFolder};
 
 use crate::asking::opened_for;
 use crate::hosts::{Asker, Listener, Place, Source};
 use crate::refusals::Refusal;
-use crate::storing::{BackedUp, Terms, store_in};
-use nl_folders::{Path, Tree};
-use nl_keep::{KeepError, Stored};
-use nl_keep_pen::OpenedVolume;
+use crate::storing::{BackedUp, Terms, store_tree};
 use nl_manifests::HostTree;
 use nl_shown::kept_tree;
-use nl_types::{Object, VolError};
 use std::alloc::Global;
-
-/// Who listens is told where there is no room for a tree.
-fn tell_full<L: Listener<BackedUp>>(
-    image: &[u8],
-    tree: &[(Path, Object)],
-    stored: &Result<(Stored, Vec<u8>, Option<(u64, u64)>), KeepError>,
-    listener: &mut L,
-) {
-    if let Err(KeepError::Refused(VolError::NoSpace)) = stored {
-        listener.full(image, tree);
-    }
-}
-
-/// Stores a tree in the volume that was opened of the image.
-fn store_tree<L: Listener<BackedUp>>(
-    alloc: Global,
-    image: &[u8],
-    volume: OpenedVolume,
-    tree: Tree,
-    listener: &mut L,
-    terms: Terms,
-) -> Result<(BackedUp, Vec<u8>), KeepError>
-    ensures stored { IfOk result (λ done. IsOpenedOf image.now volume.volume.pen
-        → IsStored terms.moment tree done.0.stored image.now done.1.items) }
-    ensures tree { IfOk result (λ done. done.0.tree ≡ tree) }
-    ensures refused { IfErr result (λ e. IsOpenedOf image.now volume.volume.pen
-        → RefusesImage terms.moment tree image.now e) }
-{
-    let stored = store_in(alloc, image, volume, tree.as_slice(), terms);
-    tell_full(image, tree.as_slice(), &stored, listener);
-    let (stored, next, grown) = stored?;
-    Ok((
-        BackedUp {
-            stored,
-            tree,
-            grown,
-        },
-        next,
-    ))
-}
 
 /// Stores a folder in the volume of an image, beside the pins that are there.
 fn store_folder<L: Asker<()> + Listener<BackedUp>>(
@@ -72,7 +26,7 @@ fn store_folder<L: Asker<()> + Listener<BackedUp>>(
     let (volume, ()) = opened_for(alloc, image, listener)?;
     let pins = volume.pins(alloc)?;
     let tree = kept_tree(alloc, pins, folder)?;
-    let done = store_tree(alloc, image, volume, tree, listener, terms)?;
+    let done = store_tree::<BackedUp, L>(alloc, image, volume, tree, listener, terms)?;
     Ok(done)
 }
 

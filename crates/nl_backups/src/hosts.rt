@@ -2,12 +2,12 @@
 //! asked for the command.
 ghost use Rattle.std.specs.Prelude.{◌≡◌, IfOk, IsOk, OnErr, None, Option};
 ghost use Rattle.nl_manifests.specs.HostTrees.{HostTree};
-ghost use Rattle.nl_backups.specs.Hosts.{Holds, Image};
+ghost use Rattle.nl_backups.specs.Hosts.{Holds, Image, IsPut};
 
 use nl_folders::Path;
 use nl_keep_pen::OpenedVolume;
 use nl_manifests::{HostTree, Opened};
-use nl_types::{Object, Row};
+use nl_types::{Items, Object, Row};
 use std::alloc::Global;
 
 /// The host doesn't give or take something. It knows why.
@@ -69,4 +69,15 @@ pub trait Listener<N> {
 
     /// No effort made room in the volume of an image for a tree.
     fn full(&mut self, image: &[u8], wanted: &[(Path, Object)]);
+}
+
+/// Puts an image in its place, where there is another one.
+pub(crate) fn save_any<P: Place>(place: &mut P, next: &Option<Items<u8>>) -> Result<(), HostFault>
+    ensures put { IsOk result → IsPut next.now (P.image place.old) (P.image place.new) }
+    ensures refused { OnErr result (P.image place.new ≡ P.image place.old) }
+{
+    match next {
+        Some(next) => place.save(next.as_slice()),
+        None => Ok(()),
+    }
 }

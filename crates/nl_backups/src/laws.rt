@@ -1,5 +1,6 @@
 //! What commands come to, one after another, as contracts of functions that do nothing.
 ghost use Rattle.nl_backups.specs.Effects.{EffectsKeepCheckpoints, FoldersComeBack};
+ghost use Rattle.nl_backups.specs.Pruning.{PinnedOnesStay};
 
 /// Each command keeps every checkpoint that it doesn't remove: one that stores a tree, one that removes
 /// others, and one that leaves the image as it was.
@@ -19,3 +20,8 @@ pub fn folders_come_back()
     nl_keep_pen::laws::images_have_the_present_mark();
     nl_shown::laws::kept_folders_are_shown();
 }
+
+/// A prune removes no checkpoint that is pinned.
+pub fn pinned_ones_stay()
+    ensures { PinnedOnesStay }
+{}

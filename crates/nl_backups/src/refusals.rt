@@ -18,6 +18,10 @@ pub enum Refusal {
     Disordered,
     /// Nothing is there at the path.
     NothingThere,
+    /// The file of pins is none.
+    BadPins,
+    /// The checkpoint isn't pinned.
+    NotPinned,
 }
 
 impl From<HostFault> for Refusal {

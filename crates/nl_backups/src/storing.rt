@@ -1,9 +1,10 @@
 //! A tree that becomes the current one of an image, and is kept as the next snapshot.
-ghost use Rattle.std.specs.Prelude.{ℕ, List, IfErr, IfOk};
+ghost use Rattle.std.specs.Prelude.{◌≡◌, ℕ, List, IfErr, IfOk};
 ghost use Rattle.nl_keep_pen.specs.Opened.{IsOpenedOf};
 ghost use Rattle.nl_backups.specs.Refusals.{RefusesImage};
 ghost use Rattle.nl_backups.specs.Storing.{IsStored};
 
+use crate::hosts::Listener;
 use nl_folders::{Path, Tree};
 use nl_keep::{KeepError, Stored};
 use nl_keep_pen::{Effort, OpenedVolume, Room};
@@ -125,4 +126,44 @@ pub fn store_in(
     let mut room = Room::new(alloc, tree, terms.moment, terms.most);
     let (stored, next) = with_efforts(alloc, image, volume, tree, terms.moment, &mut room)?;
     Ok((stored, next, room.grown))
+}
+
+/// Who listens is told where there is no room for a tree.
+fn tell_full<N, L: Listener<N>>(
+    image: &[u8],
+    tree: &[(Path, Object)],
+    stored: &Result<(Stored, Vec<u8>, Option<(u64, u64)>), KeepError>,
+    listener: &mut L,
+) {
+    if let Err(KeepError::Refused(VolError::NoSpace)) = stored {
+        listener.full(image, tree);
+    }
+}
+
+/// Stores a tree in the volume that was opened of the image.
+pub(crate) fn store_tree<N, L: Listener<N>>(
+    alloc: Global,
+    image: &[u8],
+    volume: OpenedVolume,
+    tree: Tree,
+    listener: &mut L,
+    terms: Terms,
+) -> Result<(BackedUp, Vec<u8>), KeepError>
+    ensures stored { IfOk result (λ done. IsOpenedOf image.now volume.volume.pen
+        → IsStored terms.moment tree done.0.stored image.now done.1.items) }
+    ensures tree { IfOk result (λ done. done.0.tree ≡ tree) }
+    ensures refused { IfErr result (λ e. IsOpenedOf image.now volume.volume.pen
+        → RefusesImage terms.moment tree image.now e) }
+{
+    let stored = store_in(alloc, image, volume, tree.as_slice(), terms);
+    tell_full::<N, L>(image, tree.as_slice(), &stored, listener);
+    let (stored, next, grown) = stored?;
+    Ok((
+        BackedUp {
+            stored,
+            tree,
+            grown,
+        },
+        next,
+    ))
 }

@@ -1,6 +1,6 @@
 //! `forget`: checkpoints are removed, snapshots too.
 use crate::asking::{Clock, Outcome, moment, most, word};
-use crate::faults::{Fault, fault_at, told, volume_fault};
+use crate::faults::{Fault, fault_at, told};
 use crate::hosting::LockedImage;
 use crate::printing::Printer;
 use crate::telling::{News, done_to, tell_news};
@@ -56,21 +56,6 @@ fn ranges_said(alloc: Global, words: &[&str], rows: &[Row]) -> Result<Vec<Number
         ranges.push(range)?;
     }
     Ok(ranges)
-}
-
-/// The image of a volume without checkpoints.
-pub fn without(
-    alloc: Global,
-    path: &str,
-    volume: OpenedVolume,
-    numbers: &[CheckpointNumber],
-    moment: u64,
-    cleaning: Cleaning,
-) -> Result<Vec<u8>, Fault> {
-    match volume.forget(alloc, numbers, moment, cleaning) {
-        Ok(next) => Ok(next),
-        Err(error) => Err(volume_fault(alloc, path, error)),
-    }
 }
 
 /// What is told of so many checkpoints that were removed.

@@ -1,18 +1,19 @@
 //! `pin`: a checkpoint stays whatever rules of retention say, or no longer does.
 use crate::asking::{Clock, Outcome, word};
-use crate::checkpoints::is_minor;
+use crate::checkpoints::{is_minor, kept_number};
 use crate::faults::{Fault, fault_at};
-use crate::images::take_place;
+use crate::fullness::full_fault;
+use crate::hosting::LockedImage;
 use crate::printing::Printer;
-use crate::storing::{Held, Keeping, Stores, Wanted, store_in, tell_growth};
-use crate::telling::{News, done_as};
-use crate::views::View;
+use crate::storing::{Keeping, tell_growth};
+use crate::telling::{News, done_as, tell_news};
+use crate::views::{Made, tell_earlier, tell_late};
 use clap::ArgMatches;
-use nl_folders::Tree;
-use nl_pins::{Pins, with_pins};
-use nl_saving::SavePlace;
-use nl_types::{CheckpointNumber, Row};
-use std::alloc::Global;
+use nl_backups::{Asker, BackedUp, HostFault, Listener, PinChange, PinWish, Pinned, Refusal};
+use nl_folders::Path;
+use nl_keep_pen::OpenedVolume;
+use nl_types::{CheckpointNumber, Items, Object, Row};
+use std::alloc::{AllocError, Global};
 use std::io::Write;
 
 /// What a person asks of a pin.
@@ -37,24 +38,31 @@ impl<'a> Change<'a> {
         }
         Ok(Change::On(text))
     }
-}
 
-/// A checkpoint, and the tree that has its pin changed. No tree where the pin is as it is to be.
-#[derive(Drop)]
-struct Pinning {
-    number: CheckpointNumber,
-    tree: Option<Tree>,
+    fn wished(self, alloc: Global) -> Result<PinChange, AllocError> {
+        match self {
+            Change::On(text) => Ok(PinChange::On(Items::from_slice(alloc, text.as_bytes())?)),
+            Change::Off => Ok(PinChange::Off),
+        }
+    }
+
+    /// What is told of a checkpoint of which the pin is changed so.
+    fn done(self) -> &'static str {
+        match self {
+            Change::On(_) => "pinned",
+            Change::Off => "not pinned any more",
+        }
+    }
 }
 
 /// The kept checkpoint that a word means, which no round of cleaning removes.
 fn lasting(
     alloc: Global,
-    view: &View<'_>,
+    rows: &[Row],
     word: &str,
     clock: &Clock<'_>,
 ) -> Result<CheckpointNumber, Fault> {
-    let number = view.number(alloc, word, clock)?;
-    let rows = view.rows.as_slice();
+    let number = kept_number(alloc, word, rows, clock)?;
     if rows.iter().any(|row| row.number == number && is_minor(row)) {
         return Err(fault_at(
             alloc,
@@ -65,141 +73,126 @@ fn lasting(
     Ok(number)
 }
 
-/// The pins with one of them changed.
-fn changed(
-    alloc: Global,
-    pins: Pins,
-    rows: &[Row],
-    word: &str,
-    number: CheckpointNumber,
-    change: &Change<'_>,
-    moment: u64,
-) -> Result<Pins, Fault> {
-    match change {
-        Change::On(text) => Ok(pins.with(alloc, rows, number, text.as_bytes(), moment)?),
-        Change::Off if pins.text(number).is_some() => Ok(pins.without(alloc, rows, number)?),
-        Change::Off => Err(fault_at(alloc, word, "is not pinned")),
-    }
+/// Who changes a pin.
+#[derive(Drop)]
+struct Pinner<'r, 'c, 'z, 'w> {
+    rt: &'r HostRuntime,
+    clock: &'c Clock<'z>,
+    keeping: Keeping<'w>,
+    /// Which checkpoint.
+    word: &'w str,
+    change: Change<'w>,
+    /// What is told once the image is saved.
+    news: Option<News>,
+    fault: Option<Fault>,
 }
 
-/// Whether a checkpoint is pinned with just this text.
-fn is_pinned_so(pins: &Pins, number: CheckpointNumber, change: &Change<'_>) -> bool {
-    match change {
-        Change::On(text) => pins.text(number) == Some(text.as_bytes()),
-        Change::Off => false,
-    }
-}
-
-/// The current tree with other pins.
-fn tree_with(alloc: Global, view: &View<'_>, pins: Pins) -> Result<Tree, Fault> {
-    let pins = pins.printed(alloc)?;
-    Ok(with_pins(alloc, pins, view.present_tree(alloc)?)?)
-}
-
-impl Pinning {
-    fn in_view(
-        alloc: Global,
-        view: &View<'_>,
-        word: &str,
-        clock: &Clock<'_>,
-        change: &Change<'_>,
-        moment: u64,
-    ) -> Result<Pinning, Fault> {
-        let number = lasting(alloc, view, word, clock)?;
-        let pins = view.sound_pins(alloc)?;
-        if is_pinned_so(&pins, number, change) {
-            return Ok(Pinning { number, tree: None });
-        }
-        let rows = view.rows.as_slice();
-        let pins = changed(alloc, pins, rows, word, number, change, moment)?;
-        let tree = tree_with(alloc, view, pins)?;
-        Ok(Pinning {
-            number,
-            tree: Some(tree),
+impl Pinner<'_, '_, '_, '_> {
+    /// What is wished. A late date is told.
+    fn wish(&self, rows: &[Row]) -> Result<PinWish, Fault> {
+        let Keeping { path, moment, .. } = self.keeping;
+        tell_late(self.rt, path, rows, self.clock)?;
+        tell_earlier(self.rt, path, rows, self.clock, moment, Made::Checkpoint)?;
+        let alloc = self.rt.alloc();
+        Ok(PinWish {
+            number: lasting(alloc, rows, self.word, self.clock)?,
+            change: self.change.wished(alloc)?,
         })
     }
+
+    /// What is told of a pin that is changed by a snapshot.
+    fn news_of(&self, number: CheckpointNumber, backed: &BackedUp) -> Result<News, Fault> {
+        let alloc = self.rt.alloc();
+        let mut printer = Printer {
+            out: Vec::new(alloc),
+            is_terminal: false,
+        };
+        tell_growth(backed.grown, &mut printer)?;
+        let (snapshot, number) = (backed.stored.number.get(), number.get());
+        let what = self.change.done();
+        writeln!(
+            printer.out,
+            "snapshot {snapshot}: checkpoint {number} is {what}"
+        )?;
+        let text = printer.out;
+        let done = done_as(alloc, snapshot)?;
+        Ok(News { text, done })
+    }
 }
 
-/// A pin that is changed by a snapshot.
-#[derive(Clone, Copy)]
-struct Pinned<'a> {
-    number: CheckpointNumber,
-    change: &'a Change<'a>,
+impl Asker<PinWish> for Pinner<'_, '_, '_, '_> {
+    fn asked(&mut self, _: &OpenedVolume, rows: &[Row]) -> Result<PinWish, HostFault> {
+        match self.wish(rows) {
+            Ok(wish) => Ok(wish),
+            Err(fault) => {
+                self.fault = Some(fault);
+                Err(HostFault)
+            }
+        }
+    }
 }
 
-/// What is told of a pin that is changed by a snapshot.
-fn told_of(alloc: Global, stores: &Stores, pinned: &Pinned<'_>) -> Result<News, Fault> {
-    let mut printer = Printer {
-        out: Vec::new(alloc),
-        is_terminal: false,
-    };
-    tell_growth(stores.grown, &mut printer)?;
-    let (snapshot, number) = (stores.stored.number.get(), pinned.number.get());
-    let what = match pinned.change {
-        Change::On(_) => "pinned",
-        Change::Off => "not pinned any more",
-    };
-    writeln!(
-        printer.out,
-        "snapshot {snapshot}: checkpoint {number} is {what}"
-    )?;
-    let text = printer.out;
-    let done = done_as(alloc, snapshot)?;
-    Ok(News { text, done })
+impl Listener<Pinned> for Pinner<'_, '_, '_, '_> {
+    fn done(&mut self, news: &Pinned) -> Result<(), HostFault> {
+        let Some(backed) = &news.backed else {
+            return Ok(());
+        };
+        match self.news_of(news.wish.number, backed) {
+            Ok(news) => {
+                self.news = Some(news);
+                Ok(())
+            }
+            Err(fault) => {
+                self.fault = Some(fault);
+                Err(HostFault)
+            }
+        }
+    }
+
+    fn full(&mut self, image: &[u8], wanted: &[(Path, Object)]) {
+        let Keeping { path, most, .. } = self.keeping;
+        self.fault = Some(full_fault(self.rt.alloc(), path, image, wanted, most));
+    }
 }
 
-/// Stores a tree with other pins in the volume of an image, and saves that. What was done is told once the
-/// image is there.
-fn store<W: Write>(
-    rt: &HostRuntime,
-    held: Held<'_>,
-    wanted: &Wanted,
-    pinned: &Pinned<'_>,
-    place: &mut SavePlace<'_>,
+/// Tells what became of a pin.
+fn tell<W: Write>(
+    pinned: &Pinned,
+    news: Option<News>,
+    outcome: Outcome,
     printer: &mut Printer<W>,
 ) -> Result<Outcome, Fault> {
-    let alloc = rt.alloc();
-    let Held { image, view } = held;
-    let path = view.path;
-    let stores = store_in(alloc, path, image.as_slice(), view.into_volume(), wanted)?;
-    let news = told_of(alloc, &stores, pinned)?;
-    news.save(rt, path, place, stores.image.as_slice(), printer)
-}
-
-fn tell_pinned<W: Write>(
-    number: CheckpointNumber,
-    printer: &mut Printer<W>,
-) -> Result<Outcome, Fault> {
-    writeln!(printer.out, "checkpoint {} is pinned already", number.get())?;
-    Ok(Outcome::Done)
+    if pinned.backed.is_none() {
+        let number = pinned.wish.number.get();
+        writeln!(printer.out, "checkpoint {number} is pinned already")?;
+        return Ok(Outcome::Done);
+    }
+    tell_news(news, printer)?;
+    Ok(outcome)
 }
 
 fn pin_in<W: Write>(
     rt: &HostRuntime,
     matches: &ArgMatches<'_>,
     clock: &Clock<'_>,
-    change: &Change<'_>,
-    place: &mut SavePlace<'_>,
+    change: Change<'_>,
+    image: &mut LockedImage<'_, '_>,
     printer: &mut Printer<W>,
 ) -> Result<Outcome, Fault> {
     let keeping = Keeping::said(rt, matches, clock)?;
-    let held = keeping.held(rt, clock)?;
-    let (alloc, word) = (rt.alloc(), word(matches, "CNO"));
-    let Pinning { number, tree } = Pinning::in_view(
-        alloc,
-        &held.view,
-        word,
+    let mut pinner = Pinner {
+        rt,
         clock,
+        keeping,
+        word: word(matches, "CNO"),
         change,
-        keeping.moment,
-    )?;
-    match tree {
-        Some(tree) => {
-            let wanted = keeping.wanted(tree);
-            let pinned = Pinned { number, change };
-            store(rt, held, &wanted, &pinned, place, printer)
-        }
-        None => tell_pinned(number, printer),
+        news: None,
+        fault: None,
+    };
+    match nl_backups::pin(rt.alloc(), image, &mut pinner, keeping.terms()) {
+        Ok(pinned) => tell(&pinned, pinner.news.take(), image.outcome, printer),
+        Err(Refusal::NotPinned) => Err(fault_at(rt.alloc(), pinner.word, "is not pinned")),
+        Err(refusal) => Err(image.fault_of(pinner.fault.take(), refusal)),
     }
 }
 
@@ -212,6 +205,6 @@ pub fn pin<W: Write>(
     printer: &mut Printer<W>,
 ) -> Result<Outcome, Fault> {
     let change = Change::said(rt.alloc(), matches)?;
-    let mut place = take_place(rt, word(matches, "IMAGE"))?;
-    pin_in(rt, matches, clock, &change, &mut place, printer)
+    let mut image = LockedImage::take(rt, word(matches, "IMAGE"))?;
+    pin_in(rt, matches, clock, change, &mut image, printer)
 }

@@ -1,19 +1,19 @@
 //! `prune`: checkpoints are removed that no rule keeps, snapshots too.
 use crate::asking::{Clock, Outcome, moment, word};
-use crate::checkpoints::is_minor;
 use crate::faults::{Fault, fault_at};
-use crate::forgetting::without;
-use crate::images::{open_image, take_place};
+use crate::hosting::{LockedImage, refusal_fault};
+use crate::images::{open_image, read_image};
 use crate::moments::{periods, shown};
 use crate::printing::Printer;
-use crate::telling::{News, done_to};
-use crate::views::{Made, View};
+use crate::telling::{News, done_to, tell_news};
+use crate::views::{Made, tell_earlier, tell_late};
 use clap::ArgMatches;
 use jiff::tz::TimeZone;
-use nl_keep_pen::{Cleaning, OpenedVolume};
-use nl_pins::{Dated, Pins, Rules, descends, expired};
-use nl_saving::SavePlace;
-use nl_types::{CheckpointNumber, Items, Row, decimal};
+use nl_backups::{Asker, HostFault, Listener, Pruned, prune_image};
+use nl_folders::Path;
+use nl_keep_pen::OpenedVolume;
+use nl_pins::{Periods, Rules};
+use nl_types::{Object, Row, decimal};
 use std::alloc::Global;
 use std::io::Write;
 
@@ -54,67 +54,35 @@ fn no_rule_text(matches: &ArgMatches<'_>) -> &'static str {
     }
 }
 
-/// The checkpoints as rules see them, the newest first. Minor ones are the cleaner's, and no rule counts
-/// them.
-fn dated_rows(
+// ---- what is told
+
+/// Tells of each checkpoint that goes, the oldest first.
+fn tell_going<W: Write>(
     alloc: Global,
-    rows: &[Row],
-    pins: &Pins,
+    pruned: &Pruned,
     zone: &TimeZone<'_>,
-) -> Result<Vec<Dated>, Fault> {
-    let mut dated = Vec::new(alloc);
-    for row in rows.iter().rev() {
-        if !is_minor(row) {
-            dated.push(Dated {
-                number: row.number,
-                is_pinned: pins.text(row.number).is_some(),
-                periods: periods(zone, row.stamp),
-            })?;
+    printer: &mut Printer<W>,
+) -> Result<(), Fault> {
+    let going = pruned.numbers.as_slice();
+    for row in pruned.rows.as_slice() {
+        if going.contains(&row.number) {
+            let (number, date) = (row.number.get(), shown(alloc, zone, row.stamp)?);
+            writeln!(printer.out, "{number:>8}  {date}")?;
         }
     }
-    Ok(dated)
+    Ok(())
 }
 
-/// The checkpoints that are not pinned, and that no rule keeps: a checkpoint counts for each rule that keeps
-/// it, as with restic's `forget`, and checkpoint 1, the empty one, counts as any other.
-fn unkept(
-    alloc: Global,
-    rules: &Rules,
-    view: &View<'_>,
-    zone: &TimeZone<'_>,
-) -> Result<Vec<CheckpointNumber>, Fault> {
-    let pins = view.sound_pins(alloc)?;
-    let dated = dated_rows(alloc, view.rows.as_slice(), &pins, zone)?;
-    if !descends(dated.as_slice()) {
-        // No volume lists them otherwise.
-        return Ok(Vec::new(alloc));
-    }
-    Ok(expired(alloc, rules, dated.as_slice())?)
-}
-
-/// The checkpoints of an image, and those of them that rules don't keep.
-#[derive(Drop)]
-struct Pruning {
-    rows: Items<Row>,
-    going: Vec<CheckpointNumber>,
-}
-
-impl Pruning {
-    /// Tells of each checkpoint that goes, the oldest first.
-    fn tell<W: Write>(
-        &self,
-        alloc: Global,
-        zone: &TimeZone<'_>,
-        printer: &mut Printer<W>,
-    ) -> Result<(), Fault> {
-        for row in self.rows.as_slice() {
-            if self.going.contains(&row.number) {
-                let (number, date) = (row.number.get(), shown(alloc, zone, row.stamp)?);
-                writeln!(printer.out, "{number:>8}  {date}")?;
-            }
-        }
-        Ok(())
-    }
+/// Tells how many checkpoints no rule keeps.
+fn tell_count<W: Write>(
+    pruned: &Pruned,
+    what: &str,
+    printer: &mut Printer<W>,
+) -> Result<(), Fault> {
+    let count = pruned.numbers.len();
+    let ending = if count == 1 { "" } else { "s" };
+    writeln!(printer.out, "{count} checkpoint{ending} {what}")?;
+    Ok(())
 }
 
 /// How many segments of an image are clean, and how many it has.
@@ -137,172 +105,167 @@ fn tell_clean<W: Write>(
     Ok(())
 }
 
-/// Tells how many checkpoints no rule keeps.
-fn tell_count<W: Write>(
-    pruning: &Pruning,
-    what: &str,
-    printer: &mut Printer<W>,
-) -> Result<(), Fault> {
-    let count = pruning.going.len();
-    let ending = if count == 1 { "" } else { "s" };
-    writeln!(printer.out, "{count} checkpoint{ending} {what}")?;
-    Ok(())
-}
+// ---- what is asked
 
-/// Tells which checkpoints no rule keeps, and how many they are.
-fn tell_all<W: Write>(
-    alloc: Global,
-    pruning: &Pruning,
-    zone: &TimeZone<'_>,
-    what: &str,
-    printer: &mut Printer<W>,
-) -> Result<(), Fault> {
-    pruning.tell(alloc, zone, printer)?;
-    tell_count(pruning, what, printer)
-}
-
-/// What `prune` is asked.
-#[derive(Clone, Copy)]
-struct Asked<'a> {
+/// Who prunes.
+#[derive(Drop)]
+struct Pruner<'r, 'c, 'z, 'w> {
+    rt: &'r HostRuntime,
+    clock: &'c Clock<'z>,
     /// Where the image stands.
-    path: &'a str,
+    path: &'w str,
     rules: Rules,
     moment: u64,
     /// Whether only the number of what was removed is told.
     is_quiet: bool,
+    /// Whether the image is saved.
+    is_done: bool,
+    /// What is told once the image is saved.
+    news: Option<News>,
+    fault: Option<Fault>,
 }
 
-impl<'a> Asked<'a> {
+impl<'r, 'c, 'z, 'w> Pruner<'r, 'c, 'z, 'w> {
     fn said(
-        rt: &HostRuntime,
-        matches: &ArgMatches<'a>,
-        clock: &Clock<'_>,
-    ) -> Result<Asked<'a>, Fault> {
-        Ok(Asked {
+        rt: &'r HostRuntime,
+        matches: &ArgMatches<'w>,
+        clock: &'c Clock<'z>,
+    ) -> Result<Pruner<'r, 'c, 'z, 'w>, Fault> {
+        Ok(Pruner {
+            rt,
+            clock,
             path: word(matches, "IMAGE"),
             rules: rules_said(rt.alloc(), matches)?,
             moment: moment(rt, matches, clock.now)?,
             is_quiet: matches.get_flag("quiet"),
+            is_done: !matches.get_flag("dry-run"),
+            news: None,
+            fault: None,
         })
     }
 
-    /// What is to be pruned of an image. A late date is told; where it is done, so is one later than its
-    /// moment.
-    fn pruning(
-        &self,
-        rt: &HostRuntime,
-        clock: &Clock<'_>,
-        is_done: bool,
-    ) -> Result<(OpenedVolume, Pruning), Fault> {
-        let view = View::read(rt, self.path, clock)?;
-        if is_done {
-            view.tell_earlier(rt, clock, self.moment, Made::Minor)?;
+    /// In which periods the moments of checkpoints lie. A late date is told; where it is done, so is one later
+    /// than its moment.
+    fn periods_of(&self, rows: &[Row]) -> Result<Vec<Periods>, Fault> {
+        tell_late(self.rt, self.path, rows, self.clock)?;
+        if self.is_done {
+            tell_earlier(
+                self.rt,
+                self.path,
+                rows,
+                self.clock,
+                self.moment,
+                Made::Minor,
+            )?;
         }
-        let going = unkept(rt.alloc(), &self.rules, &view, &clock.zone)?;
-        let (volume, rows) = view.into_parts();
-        Ok((volume, Pruning { rows, going }))
+        let mut all = Vec::with_capacity(self.rt.alloc(), rows.len())?;
+        for row in rows {
+            all.push(periods(&self.clock.zone, row.stamp))?;
+        }
+        Ok(all)
     }
 
-    /// The image without the checkpoints that go, and cleaned.
-    fn next(
+    /// Tells of the checkpoints that no rule keeps, and of the image without them.
+    fn tell<W: Write>(
         &self,
-        alloc: Global,
-        volume: OpenedVolume,
-        pruning: &Pruning,
-    ) -> Result<Vec<u8>, Fault> {
-        let numbers = pruning.going.as_slice();
-        without(
-            alloc,
-            self.path,
-            volume,
-            numbers,
-            self.moment,
-            Cleaning::Always,
-        )
-    }
-
-    /// Tells what pruning an image would do: it is done, but nothing is saved.
-    fn rehearse_on<W: Write>(
-        &self,
-        alloc: Global,
-        volume: OpenedVolume,
-        pruning: &Pruning,
-        zone: &TimeZone<'_>,
+        pruned: &Pruned,
+        what: &str,
+        are: &str,
         printer: &mut Printer<W>,
     ) -> Result<(), Fault> {
         if self.is_quiet {
-            return tell_count(pruning, "would be removed", printer);
+            return tell_count(pruned, what, printer);
         }
-        tell_all(alloc, pruning, zone, "would be removed", printer)?;
-        if pruning.going.is_empty() {
-            return Ok(());
+        let alloc = self.rt.alloc();
+        tell_going(alloc, pruned, &self.clock.zone, printer)?;
+        tell_count(pruned, what, printer)?;
+        match &pruned.next {
+            Some(next) => tell_clean(alloc, self.path, next.as_slice(), are, printer),
+            None => Ok(()),
         }
-        let next = self.next(alloc, volume, pruning)?;
-        tell_clean(alloc, self.path, next.as_slice(), "would be", printer)
     }
 
-    fn rehearse<W: Write>(
-        &self,
-        rt: &HostRuntime,
-        clock: &Clock<'_>,
-        printer: &mut Printer<W>,
-    ) -> Result<Outcome, Fault> {
-        let (volume, pruning) = self.pruning(rt, clock, false)?;
-        self.rehearse_on(rt.alloc(), volume, &pruning, &clock.zone, printer)?;
-        Ok(Outcome::Done)
-    }
-
-    /// What is told of checkpoints that were removed, and of the image without them.
-    fn told_of(
-        &self,
-        alloc: Global,
-        pruning: &Pruning,
-        image: &[u8],
-        zone: &TimeZone<'_>,
-    ) -> Result<News, Fault> {
+    /// What is told of checkpoints that were removed.
+    fn news_of(&self, pruned: &Pruned) -> Result<News, Fault> {
+        let alloc = self.rt.alloc();
         let mut printer = Printer {
             out: Vec::new(alloc),
             is_terminal: false,
         };
-        if self.is_quiet {
-            tell_count(pruning, "removed", &mut printer)?;
-        } else {
-            tell_all(alloc, pruning, zone, "removed", &mut printer)?;
-            tell_clean(alloc, self.path, image, "are", &mut printer)?;
-        }
+        self.tell(pruned, "removed", "are", &mut printer)?;
         let text = printer.out;
-        let done = done_to(alloc, pruning.going.len() as u64, "removed")?;
+        let done = done_to(alloc, pruned.numbers.len() as u64, "removed")?;
         Ok(News { text, done })
     }
 
-    fn prune_image<W: Write>(
-        &self,
-        rt: &HostRuntime,
-        volume: OpenedVolume,
-        pruning: &Pruning,
-        zone: &TimeZone<'_>,
-        place: &mut SavePlace<'_>,
-        printer: &mut Printer<W>,
-    ) -> Result<Outcome, Fault> {
-        if pruning.going.is_empty() {
-            writeln!(printer.out, "0 checkpoints removed")?;
-            return Ok(Outcome::Done);
+    /// Tells what pruning would do: it is done, but nothing is saved.
+    fn rehearse<W: Write>(&mut self, printer: &mut Printer<W>) -> Result<Outcome, Fault> {
+        let alloc = self.rt.alloc();
+        let image = read_image(self.rt, self.path)?;
+        let (rules, moment) = (self.rules, self.moment);
+        match prune_image(alloc, image.as_slice(), self, &rules, moment) {
+            Ok(pruned) => {
+                self.tell(&pruned, "would be removed", "would be", printer)?;
+                Ok(Outcome::Done)
+            }
+            Err(refusal) => {
+                let known = self.fault.take();
+                Err(refusal_fault(alloc, self.path, known, refusal))
+            }
         }
-        let next = self.next(rt.alloc(), volume, pruning)?;
-        let news = self.told_of(rt.alloc(), pruning, next.as_slice(), zone)?;
-        news.save(rt, self.path, place, next.as_slice(), printer)
     }
 
     fn prune<W: Write>(
-        &self,
-        rt: &HostRuntime,
-        clock: &Clock<'_>,
-        place: &mut SavePlace<'_>,
+        &mut self,
+        image: &mut LockedImage<'_, '_>,
         printer: &mut Printer<W>,
     ) -> Result<Outcome, Fault> {
-        let (volume, pruning) = self.pruning(rt, clock, true)?;
-        self.prune_image(rt, volume, &pruning, &clock.zone, place, printer)
+        let (rules, moment) = (self.rules, self.moment);
+        match nl_backups::prune(self.rt.alloc(), image, self, &rules, moment) {
+            Ok(pruned) if pruned.numbers.is_empty() => {
+                writeln!(printer.out, "0 checkpoints removed")?;
+                Ok(Outcome::Done)
+            }
+            Ok(_) => {
+                tell_news(self.news.take(), printer)?;
+                Ok(image.outcome)
+            }
+            Err(refusal) => Err(image.fault_of(self.fault.take(), refusal)),
+        }
     }
+}
+
+impl Asker<Vec<Periods>> for Pruner<'_, '_, '_, '_> {
+    fn asked(&mut self, _: &OpenedVolume, rows: &[Row]) -> Result<Vec<Periods>, HostFault> {
+        match self.periods_of(rows) {
+            Ok(periods) => Ok(periods),
+            Err(fault) => {
+                self.fault = Some(fault);
+                Err(HostFault)
+            }
+        }
+    }
+}
+
+impl Listener<Pruned> for Pruner<'_, '_, '_, '_> {
+    fn done(&mut self, news: &Pruned) -> Result<(), HostFault> {
+        if news.numbers.is_empty() {
+            return Ok(());
+        }
+        match self.news_of(news) {
+            Ok(news) => {
+                self.news = Some(news);
+                Ok(())
+            }
+            Err(fault) => {
+                self.fault = Some(fault);
+                Err(HostFault)
+            }
+        }
+    }
+
+    // Nothing is stored.
+    fn full(&mut self, _: &[u8], _: &[(Path, Object)]) {}
 }
 
 /// Removes the checkpoints that no rule keeps, cleans the volume, and saves the image. Where all are kept,
@@ -313,10 +276,10 @@ pub fn prune<W: Write>(
     clock: &Clock<'_>,
     printer: &mut Printer<W>,
 ) -> Result<Outcome, Fault> {
-    let asked = Asked::said(rt, matches, clock)?;
-    if matches.get_flag("dry-run") {
-        return asked.rehearse(rt, clock, printer);
+    let mut pruner = Pruner::said(rt, matches, clock)?;
+    if !pruner.is_done {
+        return pruner.rehearse(printer);
     }
-    let mut place = take_place(rt, asked.path)?;
-    asked.prune(rt, clock, &mut place, printer)
+    let mut image = LockedImage::take(rt, pruner.path)?;
+    pruner.prune(&mut image, printer)
 }

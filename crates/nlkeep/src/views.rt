@@ -158,11 +158,6 @@ impl<'a> View<'a> {
         self.volume
     }
 
-    /// The same, and what was told of its checkpoints.
-    pub fn into_parts(self) -> (OpenedVolume, Items<Row>) {
-        (self.volume, self.rows)
-    }
-
     pub fn pen(&self) -> &Pen<MemDevice> {
         &self.volume().pen
     }
@@ -199,18 +194,6 @@ impl<'a> View<'a> {
         match self.pins_file(alloc)? {
             Some(bytes) => Ok(Pins::read(alloc, bytes.as_slice())?),
             None => Ok(Some(Pins::none(alloc))),
-        }
-    }
-
-    /// The same. It is refused where the file is none.
-    pub fn sound_pins(&self, alloc: Global) -> Result<Pins, Fault> {
-        match self.pins(alloc)? {
-            Some(pins) => Ok(pins),
-            None => Err(fault_at(
-                alloc,
-                self.path,
-                "has a file .nlkeep-pins that is none of pins",
-            )),
         }
     }
 
