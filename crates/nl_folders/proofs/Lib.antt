@@ -1,6 +1,7 @@
 pub mod PathLemmas
 pub mod TreePaths
 pub mod SortedTrees
+pub mod LookSpans
 pub mod Walks
 pub mod WalkParts
 pub mod Sameness
@@ -11,6 +12,7 @@ pub mod FileBytes
 pub mod DoneCalls
 pub mod Renames
 pub mod StepsDone
+pub mod Agreeing
 pub mod Choosing
 pub mod ObjectsPut
 pub mod PlanSteps

@@ -8,7 +8,7 @@ ghost use Rattle.nl_types.specs.Plain.Paths.{path_cmp};
 ghost use Rattle.nl_types.specs.Plain.Trees.{lookup};
 ghost use Rattle.nl_folders.specs.Private.Looking.{BeginsNotBelow, IsBetween, first_at};
 
-use crate::paths::{Name, Path, compare};
+use crate::paths::{Name, Path, compare, shared_names};
 use nl_types::Object;
 
 /// Where a look ended, and what it found.
@@ -88,28 +88,45 @@ pub(crate) fn find_near<'a>(entries: &'a [(Path, Object)], near: usize, path: &[
 
 // ---- a look by halves
 
-/// Where an entry is looked for.
+/// Where an entry is looked for, and how many names the path has in common with each entry there that is below
+/// it, and with each that is above it. So no look compares those names again, however deep the path is.
 #[derive(Clone, Copy)]
 struct Span {
     low: usize,
     high: usize,
+    below: usize,
+    above: usize,
 }
 
 fn halved<T>(entries: &[(Path, T)], span: Span, path: &[Name]) -> Span
-    requires between { IsBetween entries.now path.now span.low span.high }
+    requires between { IsBetween entries.now path.now span }
     requires open { span.low < span.high }
-    ensures between { IsBetween entries.now path.now result.low result.high }
+    ensures between { IsBetween entries.now path.now result }
     ensures shorter { result.high - result.low < span.high - span.low }
 {
-    let Span { low, high } = span;
+    let Span {
+        low,
+        high,
+        below,
+        above,
+    } = span;
     let middle = low + (high - low) / 2;
-    if is_below(&entries[middle], path) {
+    let found = entries[middle].0.as_slice();
+    let shared = shared_names(found, path, below.min(above));
+    if compare(&found[shared..], &path[shared..]).is_lt() {
         Span {
             low: middle + 1,
             high,
+            below: shared,
+            above,
         }
     } else {
-        Span { low, high: middle }
+        Span {
+            low,
+            high: middle,
+            below,
+            above: shared,
+        }
     }
 }
 
@@ -122,6 +139,8 @@ pub(crate) fn place_in<T>(entries: &[(Path, T)], path: &[Name]) -> usize
     let mut span = Span {
         low: 0,
         high: entries.len(),
+        below: 0,
+        above: 0,
     };
     while span.low < span.high {
         span = halved(entries, span, path);

@@ -1,6 +1,7 @@
 //! Paths as lists of names.
 ghost use Rattle.std.specs.Prelude.{◌≡◌, ◌≤◌, [], ◌∷◌, ◌++◌, true, length, IfOk, OnOk};
-ghost use Rattle.nl_types.specs.Plain.Paths.{same_path, path_cmp, is_within};
+ghost use Rattle.nl_types.specs.Plain.Paths.{same_name, same_path, path_cmp, is_within};
+ghost use Rattle.nl_folders.specs.Private.Agreeing.{AgreeOn};
 ghost use Rattle.nl_folders.specs.Spelled.{joined, spelling};
 
 use nl_types::Items;
@@ -30,6 +31,30 @@ pub fn compare(a: &[Name], b: &[Name]) -> Ordering
     }
 }
 
+fn is_same_name(a: &Name, b: &Name) -> bool
+    ensures { result ≡ same_name a.now b.now }
+{
+    a.as_slice().cmp(&b.as_slice()).is_eq()
+}
+
+/// How many of the first names of two paths are the same. Of `from` of them that is known, and they aren't looked
+/// at again.
+pub(crate) fn shared_names(a: &[Name], b: &[Name], from: usize) -> usize
+    ensures within_one { result ≤ length a.now }
+    ensures within_other { result ≤ length b.now }
+    ensures same { AgreeOn from a.now b.now → AgreeOn result a.now b.now }
+{
+    let most = a.len().min(b.len());
+    let mut shared = from.min(most);
+    while shared < most {
+        if !is_same_name(&a[shared], &b[shared]) {
+            return shared;
+        }
+        shared += 1;
+    }
+    shared
+}
+
 /// Whether two paths are one.
 pub fn is_same_path(a: &[Name], b: &[Name]) -> bool
     ensures { result ≡ same_path a.now b.now }
@@ -46,14 +71,12 @@ pub fn begins_with(path: &[Name], top: &[Name]) -> bool
     match (top, path) {
         ([], _) => true,
         ([_, ..], []) => false,
-        ([n, top @ ..], [m, path @ ..]) => {
-            n.as_slice().cmp(&m.as_slice()).is_eq() && begins_with(path, top)
-        }
+        ([n, top @ ..], [m, path @ ..]) => { is_same_name(n, m) && begins_with(path, top) }
     }
 }
 
-fn append_copies(alloc: Global, path: &mut Path, names: &[Name]) -> Result<(), AllocError>
-    ensures { OnOk result (path.new ≡ path.old ++ names.now) }
+fn append_copies(alloc: Global, path: &mut Vec<Name>, names: &[Name]) -> Result<(), AllocError>
+    ensures { OnOk result (path.new.items ≡ path.old.items ++ names.now) }
 {
     match names {
         [] => Ok(()),
@@ -68,27 +91,27 @@ fn append_copies(alloc: Global, path: &mut Path, names: &[Name]) -> Result<(), A
 pub fn copied(alloc: Global, path: &[Name]) -> Result<Path, AllocError>
     ensures { IfOk result (λ copy. copy ≡ path.now) }
 {
-    let mut copy = Items::new(alloc);
-    append_copies(alloc, &mut copy, path)?;
-    Ok(copy)
+    appended(alloc, path, &[])
 }
 
 /// A path, and another one below it.
 pub fn appended(alloc: Global, top: &[Name], below: &[Name]) -> Result<Path, AllocError>
     ensures { IfOk result (λ path. path ≡ top.now ++ below.now) }
 {
-    let mut path = copied(alloc, top)?;
+    let mut path = Vec::with_capacity(alloc, top.len().saturating_add(below.len()))?;
+    append_copies(alloc, &mut path, top)?;
     append_copies(alloc, &mut path, below)?;
-    Ok(path)
+    Ok(Items::from_vec(path))
 }
 
 /// The path of a name in a directory.
 pub fn with_name(alloc: Global, directory: &[Name], name: &[u8]) -> Result<Path, AllocError>
     ensures { IfOk result (λ path. path ≡ directory.now ++ name.now ∷ []) }
 {
-    let mut path = copied(alloc, directory)?;
+    let mut path = Vec::with_capacity(alloc, directory.len().saturating_add(1))?;
+    append_copies(alloc, &mut path, directory)?;
     path.push(Items::from_slice(alloc, name)?)?;
-    Ok(path)
+    Ok(Items::from_vec(path))
 }
 
 fn append_spelled(alloc: Global, spelling: &mut Items<u8>, names: &[Name]) -> Result<(), AllocError>

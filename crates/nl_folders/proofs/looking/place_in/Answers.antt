@@ -12,4 +12,4 @@ returns-clause-found g c sorted =
     let met : span.high ≡ span.low = omega (arith, b.ordered, c.loop-span-test.false) in
     b.passed sorted
     ∙ first_found_from entries span.low path sorted
-    (subst (λ (n : ℕ). BeginsNotBelow path (drop n entries)) met b.ended)
+    (subst (λ (n : ℕ). BeginsNotBelow path (drop n entries)) met (b.ended sorted))
