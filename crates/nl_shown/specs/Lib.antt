@@ -1,4 +1,5 @@
 pub mod Kept
 pub mod Parts
 pub mod Reverted
+pub mod Unknown
 pub mod Private

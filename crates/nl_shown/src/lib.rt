@@ -6,8 +6,10 @@ pub mod laws;
 mod parts;
 mod reverting;
 mod showing;
+mod unknown;
 
 pub use keeping::kept_tree;
 pub use parts::part_at;
 pub use reverting::{RevertError, reverted};
 pub use showing::shown_tree;
+pub use unknown::{with_lost, with_private};

@@ -1,9 +1,7 @@
 //! Folders that have a manifest which is none, as damage leaves it.
 use crate::printing::{Printer, errors};
 use nl_folders::{Name, Path, begins_with, find_in};
-use nl_manifests::{Attributes, HostEntry, HostObject, HostTree, Time};
-use nl_types::Items;
-use std::alloc::{AllocError, Global};
+use nl_manifests::{HostEntry, HostObject};
 use std::io::{self, Write};
 
 /// The name that a manifest has.
@@ -71,88 +69,4 @@ pub fn tell_bad_manifests(
         }
     }
     are_good
-}
-
-/// The attributes that an archive tells of what has none that are known.
-fn private_attributes(object: &HostObject) -> Attributes {
-    let mode = match object {
-        HostObject::Directory => 0o700,
-        _ => 0o600,
-    };
-    Attributes {
-        mode,
-        owner: 0,
-        group: 0,
-        time: Time {
-            is_negative: false,
-            seconds: 0,
-            nanoseconds: 0,
-        },
-    }
-}
-
-/// A tree in which what has no known attributes is its owner's alone.
-pub fn with_private(alloc: Global, tree: HostTree) -> Result<HostTree, AllocError> {
-    let mut private = Items::new(alloc);
-    for (path, entry) in tree.into_vec() {
-        let HostEntry { object, attributes } = entry;
-        let attributes = match attributes {
-            Some(attributes) => attributes,
-            None => private_attributes(&object),
-        };
-        let entry = HostEntry {
-            object,
-            attributes: Some(attributes),
-        };
-        private.push((path, entry))?;
-    }
-    Ok(private)
-}
-
-/// What comes back of an entry at or above a path has no manifest of its own that goes along: a file at the
-/// path, and a folder above it where nothing stands now.
-fn is_without(path: &[Name], entry: &HostEntry, later: Option<&HostEntry>, top: &[Name]) -> bool {
-    match entry.object {
-        HostObject::Directory => path.len() < top.len() && later.is_none(),
-        _ => path.len() == top.len(),
-    }
-}
-
-/// The attributes that an entry gets that has none that are known: those of a file that stands there now, or
-/// else it is its owner's alone.
-fn lost_attributes(entry: &HostEntry, later: Option<&HostEntry>) -> Attributes {
-    match later {
-        Some(
-            HostEntry {
-                object: HostObject::File(_),
-                attributes: Some(attributes),
-            },
-        ) => *attributes,
-        _ => private_attributes(&entry.object),
-    }
-}
-
-/// An earlier tree in which what comes back at or above a path, and has no known attributes as a manifest is
-/// none, is no more open than what stands there later, or its owner's alone.
-pub fn with_lost(
-    alloc: Global,
-    earlier: HostTree,
-    later: &[(Path, HostEntry)],
-    top: &[Name],
-) -> Result<HostTree, AllocError> {
-    let mut tree = Items::new(alloc);
-    for (path, entry) in earlier.into_vec() {
-        let now = find_in(later, path.as_slice());
-        let is_lost = entry.attributes.is_none()
-            && begins_with(top, path.as_slice())
-            && is_without(path.as_slice(), &entry, now, top);
-        let attributes = if is_lost {
-            Some(lost_attributes(&entry, now))
-        } else {
-            entry.attributes
-        };
-        let object = entry.object;
-        tree.push((path, HostEntry { object, attributes }))?;
-    }
-    Ok(tree)
 }

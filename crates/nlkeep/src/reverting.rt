@@ -2,7 +2,7 @@
 use crate::asking::{Clock, Outcome, word};
 use crate::faults::{Fault, fault_at};
 use crate::images::take_place;
-use crate::manifests::{tell_bad_manifests, with_lost};
+use crate::manifests::tell_bad_manifests;
 use crate::parts::path_said;
 use crate::printing::{Printer, tell_refused};
 use crate::progress::Progress;
@@ -13,7 +13,7 @@ use clap::ArgMatches;
 use nl_folders::{Name, Tree};
 use nl_manifests::{HostTree, Opened, open};
 use nl_saving::SavePlace;
-use nl_shown::{RevertError, reverted};
+use nl_shown::{RevertError, reverted, with_lost};
 use std::alloc::Global;
 use std::io::Write;
 
