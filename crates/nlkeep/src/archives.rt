@@ -2,20 +2,22 @@
 use crate::asking::{Clock, Outcome, word};
 use crate::faults::{Fault, fault_at};
 use crate::gauge::Gauge;
-use crate::images::take_place;
-use crate::manifests::{tell_bad_manifests, with_private};
+use crate::keeping::{Given, keep};
+use crate::manifests::tell_bad_manifests;
 use crate::parts::{part_wanted, path_said};
 use crate::printing::{Printer, tell_paths_left_out, tell_refused_below};
 use crate::progress::Progress;
-use crate::storing::{Gathered, Keeping};
-use crate::unpacking::{INPUT, LIMITS, input_fault, kept_of};
+use crate::unpacking::{INPUT, Kept, LIMITS, input_fault, kept_of};
 use crate::views::View;
 use clap::ArgMatches;
 use nl_folders::Path;
-use nl_manifests::{HostEntry, Opened};
-use nl_saving::SavePlace;
+use nl_manifests::{HostEntry, HostTree, Opened};
+use nl_shown::with_private;
 use std::alloc::Global;
 use std::io::{IsTerminal, Write};
+
+/// What is said of an archive that has such a tree.
+pub const UNSHOWN: &str = "has a tree that no volume shows";
 
 /// Writes an archive to what is no terminal.
 fn write_archive<W: Write>(
@@ -67,37 +69,21 @@ fn judge_input(rt: &HostRuntime) -> Result<(), Fault> {
     Ok(())
 }
 
-/// What is kept of the archive that comes from standard input. What is left out is told.
-fn unpacked(rt: &HostRuntime, progress: &mut Progress<'_>) -> Result<Gathered, Fault> {
+/// What is to be kept of the archive that comes from standard input, and whether that is all. What is left out
+/// is told.
+pub fn unpacked(rt: &HostRuntime, progress: &mut Progress<'_>) -> Result<(HostTree, bool), Fault> {
     let alloc = rt.alloc();
     judge_input(rt)?;
     progress.tell("reading the archive");
     let mut gauge = Gauge::new(rt);
-    let kept = match nl_tar::read_from(alloc, Some(LIMITS), &mut gauge) {
-        Ok(unpacked) => kept_of(alloc, unpacked),
-        Err(error) => Err(input_fault(alloc, error, &gauge)),
-    };
+    let unpacked = nl_tar::read_from(alloc, Some(LIMITS), &mut gauge);
     progress.end();
-    let kept = kept?;
-    tell_paths_left_out(rt, kept.left_out.as_slice());
-    Ok(Gathered {
-        tree: kept.tree,
-        is_whole: kept.left_out.is_empty(),
-    })
-}
-
-fn untar_into<W: Write>(
-    rt: &HostRuntime,
-    matches: &ArgMatches<'_>,
-    clock: &Clock<'_>,
-    place: &mut SavePlace<'_>,
-    printer: &mut Printer<W>,
-) -> Result<Outcome, Fault> {
-    let keeping = Keeping::said(rt, matches, clock)?;
-    let mut progress = Progress::begin(rt, matches);
-    let gathered = unpacked(rt, &mut progress)?;
-    let held = keeping.held(rt, clock)?;
-    keeping.keep_gathered(rt, held, gathered, &mut progress, place, printer)
+    let Kept { folder, left_out } = match unpacked {
+        Ok(unpacked) => kept_of(alloc, unpacked)?,
+        Err(error) => return Err(input_fault(alloc, error, &gauge)),
+    };
+    tell_paths_left_out(rt, left_out.as_slice());
+    Ok((folder, left_out.is_empty()))
 }
 
 /// Keeps the tree of an archive as the next snapshot.
@@ -107,6 +93,5 @@ pub fn untar<W: Write>(
     clock: &Clock<'_>,
     printer: &mut Printer<W>,
 ) -> Result<Outcome, Fault> {
-    let mut place = take_place(rt, word(matches, "IMAGE"))?;
-    untar_into(rt, matches, clock, &mut place, printer)
+    keep(rt, matches, clock, Given::Archive, printer)
 }

@@ -72,10 +72,10 @@ impl fmt::Display for Unkept {
     }
 }
 
-/// The tree of a volume that shows what an archive has, and what is left out of it.
+/// What is to be kept of an archive, and what is left out of it.
 #[derive(Drop)]
 pub struct Kept {
-    pub tree: Tree,
+    pub folder: HostTree,
     pub left_out: Items<(Path, Unkept)>,
 }
 
@@ -208,16 +208,11 @@ pub fn sealed(
 /// What is kept of an archive: all but devices and pipes, the name of manifests, paths above 4,095 bytes and
 /// what lies below these, links whose targets are longer than that, and owners and dates for which a manifest
 /// has no room. A folder that the archive has no member of gets the usual attributes.
-///
-/// # Errors
-/// Trees that no volume takes.
-pub fn kept_of(alloc: Global, unpacked: Unpacked) -> Result<Kept, Fault> {
+pub fn kept_of(alloc: Global, unpacked: Unpacked) -> Result<Kept, AllocError> {
     let mut left_out = Items::new(alloc);
-    let tree = kept_entries(alloc, unpacked.tree, &mut left_out)?;
+    let folder = kept_entries(alloc, unpacked.tree, &mut left_out)?;
     take_notes(unpacked.left_out, &mut left_out)?;
-    let unshown = "has a tree that no volume shows";
-    let tree = sealed(alloc, INPUT, tree.as_slice(), unshown)?;
-    Ok(Kept { tree, left_out })
+    Ok(Kept { folder, left_out })
 }
 
 // ---- refusals
