@@ -8,8 +8,8 @@ ghost use Rattle.nl_backups.specs.Refusals.{LacksPart, RefusesAt, RefusesLook, R
 use crate::asking::opened_for;
 use crate::hosts::{Asker, Place, Target};
 use crate::refusals::Refusal;
-use nl_folders::Name;
 use nl_manifests::{HostTree, Opened};
+use nl_names::Name;
 use nl_shown::{part_at, shown_tree};
 use nl_types::CheckpointNumber;
 use std::alloc::Global;

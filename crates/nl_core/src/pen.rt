@@ -25,11 +25,12 @@ use nl_cpfile::Cpstat;
 use nl_dat::{Bdesc, Dat, DatEntry};
 use nl_device::Device;
 use nl_events::{NoNotes, Parts, Room, is_same_file, is_same_tree};
+use nl_names::Name;
 use nl_protect::boundary;
 use nl_segwriter::LogSpace;
 use nl_sufile::{SegTable, SegmentCounts};
 use nl_types::{
-    Ask, CheckpointNumber, Event, Geometry, Items, MAX_PAYLOAD, Moment, Reply, Row, Segment,
+    Ask, CheckpointNumber, Event, Geometry, MAX_PAYLOAD, Moment, Reply, Row, Segment,
     VirtualNumber, VolError,
 };
 use nl_vstore::Vstore;
@@ -174,12 +175,7 @@ impl<D: Device> Pen<D> {
 
     /// Whether a path leads to a file in the trees of two kept checkpoints, by one inode: kind, size and root
     /// are equal, so that the file is the same. It reads no block of the file, and takes no memory.
-    pub fn is_same_file(
-        &self,
-        old: CheckpointNumber,
-        new: CheckpointNumber,
-        path: &[Items<u8>],
-    ) -> bool
+    pub fn is_same_file(&self, old: CheckpointNumber, new: CheckpointNumber, path: &[Name]) -> bool
         ensures exact { IsTrue result ↔ HaveOneInode self.now old new path.now }
         ensures same { IsTrue result → HaveOneFile self.now old new path.now }
     {

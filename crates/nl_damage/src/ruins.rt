@@ -11,9 +11,10 @@ use crate::sound::sound_tree;
 use nl_blocktree::{Met, get, walk};
 use nl_dirs::{Record, records};
 use nl_files::ReadTree;
-use nl_folders::{Name, Path, Tree, with_name};
+use nl_folders::{Path, Tree, with_name};
 use nl_ifile::inode;
 use nl_layout::{CheckpointEntry, Inode, InodeKind, Root};
+use nl_names::Name;
 use nl_tree::TreeRead;
 use nl_types::limits::{
     FILE_LIMIT, INODE_LIMIT, PATH_LENGTH_LIMIT, ROOT_INODE, VOLUME_BLOCK_LIMIT,

@@ -9,9 +9,10 @@ ghost use Rattle.nl_damage.specs.WholeTrees.{HasTree, StandsForTree};
 
 use crate::pages::{ImagePages, judge_by};
 use nl_files::ReadTree;
-use nl_folders::{Folder, FolderError, Name, Tree, whole_tree};
+use nl_folders::{Folder, FolderError, Tree, whole_tree};
 use nl_keep::{Answering, bytes_answered, names_answered};
 use nl_layout::{CheckpointEntry, Root};
+use nl_names::Name;
 use nl_tree::answer;
 use nl_types::{Ask, Geometry, Items, Named, Reply, VolError};
 use nl_vstore::VRead;

@@ -13,9 +13,10 @@ use nl_cpfile::Checkpoints;
 use nl_files::ReadTree;
 use nl_ifile::inode;
 use nl_layout::{Inode, Root};
+use nl_names::Name;
 use nl_tree::{Link, TreeRead};
 use nl_types::limits::ROOT_INODE;
-use nl_types::{CheckpointNumber, InodeNumber, Items, Kind};
+use nl_types::{CheckpointNumber, InodeNumber, Kind};
 use nl_vstore::VRead;
 
 /// One step of a walk, which goes on through a directory alone.
@@ -31,7 +32,7 @@ fn step<T: TreeRead>(tree: &T, at: Link, name: &[u8]) -> Option<Link>
 }
 
 /// Where the walk from the root by these names comes to.
-fn walk<T: TreeRead>(tree: &T, names: &[Items<u8>]) -> Option<Link>
+fn walk<T: TreeRead>(tree: &T, names: &[Name]) -> Option<Link>
     ensures { (held : Holding) → T.holds tree.now held
         → result ≡ result_ok (resolve (inodes_of_holding held) names.now) }
 {
@@ -43,7 +44,7 @@ fn walk<T: TreeRead>(tree: &T, names: &[Items<u8>]) -> Option<Link>
 }
 
 /// The inode of the file at a path, in the tree under a root.
-fn file_inode<V: VRead>(store: &V, root: &Root, path: &[Items<u8>]) -> Option<Inode>
+fn file_inode<V: VRead>(store: &V, root: &Root, path: &[Name]) -> Option<Inode>
     ensures { (held : Holding) → HoldsTree (V.pages store.now) (root_of root.now) held
         → result ≡ file_inode (V.pages store.now) (root_of root.now) held path.now }
 {
@@ -59,7 +60,7 @@ fn kept_inode<V: VRead>(
     store: &V,
     kept: &Checkpoints,
     number: CheckpointNumber,
-    path: &[Items<u8>],
+    path: &[Name],
 ) -> Option<Inode>
     requires { AreHeld (V.pages store.now) kept.now.table }
     ensures { (inode : Inode) → (result ≡ Some inode)
@@ -76,7 +77,7 @@ pub fn is_same_file<V: VRead>(
     kept: &Checkpoints,
     old: CheckpointNumber,
     new: CheckpointNumber,
-    path: &[Items<u8>],
+    path: &[Name],
 ) -> bool
     requires { AreHeld (V.pages store.now) kept.now.table }
     ensures { IsTrue result

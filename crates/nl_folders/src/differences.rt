@@ -4,8 +4,9 @@ ghost use Rattle.std.specs.Option.{option_copied};
 ghost use Rattle.nl_folders.specs.Differences.{difference_of, differences, told};
 ghost use Rattle.nl_folders.specs.Private.Merging.{TellsNext};
 
-use crate::paths::{Name, Path, compare, copied, is_same_path};
+use crate::paths::{Path, compare, copied, is_same_path};
 use crate::trees::is_same_object;
+use nl_names::Name;
 use nl_types::{Items, Object};
 use std::alloc::{AllocError, Global};
 use std::cmp::Ordering;

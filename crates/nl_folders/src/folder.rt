@@ -7,8 +7,9 @@ ghost use Rattle.nl_types.specs.Plain.Calls.{file_at, list};
 ghost use Rattle.nl_folders.specs.Refusals.{RefusesPath, RefusesTree};
 ghost use Rattle.nl_folders.specs.Walks.{IsVisit, IsWalk, StandsIn, stacked};
 
-use crate::paths::{Name, Path, copied, with_name};
+use crate::paths::{Path, copied, with_name};
 use crate::trees::{MOST_PATHS, Tree, is_in_order};
+use nl_names::Name;
 use nl_types::{Items, Kind, Named, Object, VolError};
 use std::alloc::{AllocError, AllocFailed, Global};
 

@@ -19,7 +19,7 @@ pub use folder::{Folder, FolderError, whole_tree};
 pub use looking::find_in;
 pub use passing::{Knowledge, folder_differences};
 pub use paths::{
-    Name, Path, appended, begins_with, compare, copied, is_same_path, spelled, with_name,
+    Path, appended, begins_with, compare, copied, is_same_path, sharing, spelled, with_name,
 };
 pub use plans::{Plan, planned_calls};
 pub use trees::{Tree, found_at, is_in_order, is_same_kind, is_same_object, part_below};

@@ -8,7 +8,8 @@ ghost use Rattle.nl_types.specs.Plain.Paths.{path_cmp};
 ghost use Rattle.nl_types.specs.Plain.Trees.{lookup};
 ghost use Rattle.nl_folders.specs.Private.Looking.{BeginsNotBelow, IsBetween, first_at};
 
-use crate::paths::{Name, Path, compare, shared_names};
+use crate::paths::{Path, compare, shared_names};
+use nl_names::Name;
 use nl_types::Object;
 
 /// Where a look ended, and what it found.

@@ -12,9 +12,10 @@ ghost use Rattle.nl_folders.specs.Private.Sides.{HasDirectoryAbove, IsPart, MayM
 ghost use Rattle.nl_folders.specs.Spelled.{IsNameable};
 
 use crate::looking::{find_in, find_near, place_in};
-use crate::paths::{Name, Path, begins_with, compare, is_same_path};
+use crate::paths::{Path, begins_with, compare, is_same_path};
 use crate::sides::{Relocation, Sides, are_free};
 use crate::trees::{MOST_PATHS, is_same_object};
+use nl_names::Name;
 use nl_types::{Items, Object};
 use std::alloc::{AllocError, Global};
 use std::cmp::Ordering;

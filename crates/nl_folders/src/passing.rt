@@ -8,7 +8,8 @@ ghost use Rattle.nl_folders.specs.Refusals.{RefusesTree};
 
 use crate::differences::{Difference, all_differences};
 use crate::folder::{Folder, FolderError, whole_tree};
-use crate::paths::{Name, Path};
+use crate::paths::Path;
+use nl_names::Name;
 use nl_types::{Items, Named};
 use std::alloc::Global;
 

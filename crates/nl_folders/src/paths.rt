@@ -4,12 +4,10 @@ ghost use Rattle.nl_types.specs.Plain.Paths.{same_name, same_path, path_cmp, is_
 ghost use Rattle.nl_folders.specs.Private.Agreeing.{AgreeOn};
 ghost use Rattle.nl_folders.specs.Spelled.{joined, spelling};
 
+use nl_names::Name;
 use nl_types::Items;
 use std::alloc::{AllocError, Global};
 use std::cmp::Ordering;
-
-/// A name in a directory, as bytes.
-pub type Name = Items<u8>;
 
 /// The names from the root down. The root is the empty list.
 pub type Path = Items<Name>;
@@ -75,19 +73,19 @@ pub fn begins_with(path: &[Name], top: &[Name]) -> bool
     }
 }
 
-fn append_copies(alloc: Global, path: &mut Vec<Name>, names: &[Name]) -> Result<(), AllocError>
+fn append_shared(path: &mut Vec<Name>, names: &[Name]) -> Result<(), AllocError>
     ensures { OnOk result (path.new.items ≡ path.old.items ++ names.now) }
 {
     match names {
         [] => Ok(()),
         [name, rest @ ..] => {
-            path.push(Items::from_slice(alloc, name.as_slice())?)?;
-            append_copies(alloc, path, rest)
+            path.push(name.share()?)?;
+            append_shared(path, rest)
         }
     }
 }
 
-/// A path in memory of its own.
+/// A path that shares its names.
 pub fn copied(alloc: Global, path: &[Name]) -> Result<Path, AllocError>
     ensures { IfOk result (λ copy. copy ≡ path.now) }
 {
@@ -99,9 +97,18 @@ pub fn appended(alloc: Global, top: &[Name], below: &[Name]) -> Result<Path, All
     ensures { IfOk result (λ path. path ≡ top.now ++ below.now) }
 {
     let mut path = Vec::with_capacity(alloc, top.len().saturating_add(below.len()))?;
-    append_copies(alloc, &mut path, top)?;
-    append_copies(alloc, &mut path, below)?;
+    append_shared(&mut path, top)?;
+    append_shared(&mut path, below)?;
     Ok(Items::from_vec(path))
+}
+
+/// The same path. The names at its head that stand at that of another one too are shared with that: so paths that
+/// come one by one, each with names of its own, don't keep them.
+pub fn sharing(alloc: Global, path: &[Name], other: &[Name]) -> Result<Path, AllocError>
+    ensures { IfOk result (λ same. same ≡ path.now) }
+{
+    let shared = shared_names(path, other, 0);
+    appended(alloc, &other[..shared], &path[shared..])
 }
 
 /// The path of a name in a directory.
@@ -109,20 +116,20 @@ pub fn with_name(alloc: Global, directory: &[Name], name: &[u8]) -> Result<Path,
     ensures { IfOk result (λ path. path ≡ directory.now ++ name.now ∷ []) }
 {
     let mut path = Vec::with_capacity(alloc, directory.len().saturating_add(1))?;
-    append_copies(alloc, &mut path, directory)?;
-    path.push(Items::from_slice(alloc, name)?)?;
+    append_shared(&mut path, directory)?;
+    path.push(Name::new(alloc, name)?)?;
     Ok(Items::from_vec(path))
 }
 
-fn append_spelled(alloc: Global, spelling: &mut Items<u8>, names: &[Name]) -> Result<(), AllocError>
-    ensures { OnOk result (spelling.new ≡ spelling.old ++ joined names.now) }
+fn append_spelled(spelling: &mut Vec<u8>, names: &[Name]) -> Result<(), AllocError>
+    ensures { OnOk result (spelling.new.items ≡ spelling.old.items ++ joined names.now) }
 {
     match names {
         [] => Ok(()),
         [name, rest @ ..] => {
             spelling.push(b'/')?;
-            spelling.append(name.as_slice().to_vec(alloc)?)?;
-            append_spelled(alloc, spelling, rest)
+            spelling.extend_from_slice(name.as_slice())?;
+            append_spelled(spelling, rest)
         }
     }
 }
@@ -131,11 +138,11 @@ fn append_spelled(alloc: Global, spelling: &mut Items<u8>, names: &[Name]) -> Re
 pub fn spelled(alloc: Global, path: &[Name]) -> Result<Items<u8>, AllocError>
     ensures { IfOk result (λ bytes. bytes ≡ spelling path.now) }
 {
-    let mut bytes = Items::new(alloc);
+    let mut bytes = Vec::new(alloc);
     if path.is_empty() {
         bytes.push(b'/')?;
     } else {
-        append_spelled(alloc, &mut bytes, path)?;
+        append_spelled(&mut bytes, path)?;
     }
-    Ok(bytes)
+    Ok(Items::from_vec(bytes))
 }

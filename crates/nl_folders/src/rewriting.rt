@@ -9,7 +9,8 @@ ghost use Rattle.nl_folders.specs.Blocks.{block_stands, blocks_in};
 ghost use Rattle.nl_folders.specs.Private.Rewriting.{BlocksStand, IsNextRun, MakesFile, RewritesFile, place_of, write_of};
 ghost use Rattle.nl_folders.specs.Spelled.{spelling};
 
-use crate::paths::{Name, spelled};
+use crate::paths::spelled;
+use nl_names::Name;
 use nl_types::{BLOCK_SIZE, Change, Items};
 use std::alloc::{AllocError, Global};
 

@@ -3,7 +3,8 @@ ghost use Rattle.std.specs.Prelude.{◌≡◌, ◌+◌, ◌<◌, ◌≤◌, IsTr
 ghost use Rattle.nl_folders.specs.Private.Sides.{AreFree, AreMatched, IsPlaced, MayMake, MayMove, SetsFlags, call_of, calls_of};
 ghost use Rattle.nl_folders.specs.Spelled.{IsNameable};
 
-use crate::paths::{Name, Path, spelled};
+use crate::paths::{Path, spelled};
+use nl_names::Name;
 use nl_types::{Change, Items, Object};
 use std::alloc::{AllocError, Global};
 use std::marker::Model;

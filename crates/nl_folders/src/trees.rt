@@ -5,7 +5,8 @@ ghost use Rattle.nl_types.specs.Plain.Trees.{lookup};
 ghost use Rattle.nl_folders.specs.Differences.{same_kind, same_object, rising};
 ghost use Rattle.nl_folders.specs.Parts.{part_below};
 
-use crate::paths::{Name, Path, begins_with, compare, copied};
+use crate::paths::{Path, begins_with, compare, copied};
+use nl_names::Name;
 use nl_types::limits::PATH_LIMIT;
 use nl_types::{Items, Object};
 use std::alloc::{AllocError, Global};

@@ -7,8 +7,9 @@ use crate::identity::Identity;
 use crate::left_out::{LeftOut, Reason, TooBig};
 use crate::open_folders::OpenFolders;
 use crate::selection::{Selection, is_reserved};
-use nl_folders::{FolderError, Name};
+use nl_folders::FolderError;
 use nl_manifests::Attributes;
+use nl_names::Name;
 use nl_types::limits::{FILE_LIMIT, PATH_LENGTH_LIMIT, VOLUME_BLOCK_LIMIT};
 use nl_types::{BLOCK_SIZE, Items, VolError};
 use std::alloc::{AllocError, Global};
@@ -75,7 +76,7 @@ pub(crate) struct Listed {
 /// Something in a folder that is kept.
 #[derive(Drop)]
 pub(crate) struct Found {
-    pub(crate) name: Name,
+    pub(crate) name: Items<u8>,
     pub(crate) listed: Listed,
 }
 

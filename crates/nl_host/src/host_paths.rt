@@ -4,7 +4,7 @@ ghost use Rattle.std.specs.Str.{is_utf8};
 ghost use Rattle.nl_types.specs.Plain.Characters.{slash};
 ghost use Rattle.nl_host.specs.HostPaths.{host_names, host_path, is_host_name};
 
-use nl_folders::Name;
+use nl_names::Name;
 use nl_types::is_name;
 use std::alloc::{AllocError, Global};
 use std::str;

@@ -3,8 +3,9 @@ ghost use Rattle.std.specs.Prelude.{◌≡◌, ◌<◌, ◌++◌, ◌∷◌, [],
 
 use crate::host_folder::{Found, HostFolder, Kind, Listed, Listing};
 use crate::open_folders::OpenFolders;
-use nl_folders::{FolderError, Name, Path, with_name};
+use nl_folders::{FolderError, Path, with_name};
 use nl_manifests::{HostEntry, HostObject, HostTree};
+use nl_names::Name;
 use nl_types::limits::PATH_LIMIT;
 use nl_types::{Items, VolError};
 use std::alloc::Global;

@@ -10,7 +10,8 @@ ghost use Rattle.nl_folders.specs.Refusals.{RefusesPath};
 ghost use Rattle.nl_keep.specs.Refusals.{RefusesFile};
 
 use crate::asking::{bytes_of, listing_of, names_of, whole_file};
-use nl_folders::{FolderError, Name};
+use nl_folders::FolderError;
+use nl_names::Name;
 use nl_types::{Ask, Items, Named, Reply};
 use std::alloc::Global;
 

@@ -10,7 +10,8 @@ ghost use Rattle.nl_folders.specs.declared.folder.FolderError.TheVariants.{Refus
 ghost use Rattle.nl_folders.specs.Spelled.{spelling};
 ghost use Rattle.nl_keep.specs.Private.Refused.{RefusesQuestion};
 
-use nl_folders::{FolderError, Name, spelled};
+use nl_folders::{FolderError, spelled};
+use nl_names::Name;
 use nl_types::{Answer, Ask, Items, Named, Reply, VolError, is_name};
 use std::alloc::Global;
 

@@ -8,7 +8,8 @@ ghost use Rattle.nl_keep.specs.Shown.{ShowsKept};
 use crate::answering::{Answering, bytes_answered, names_answered};
 use crate::asking::{bytes_of, first_bytes};
 use crate::volume::Volume;
-use nl_folders::{Folder, FolderError, Name};
+use nl_folders::{Folder, FolderError};
+use nl_names::Name;
 use nl_types::{Ask, CheckpointNumber, Items, Named, Reply};
 use std::alloc::Global;
 

@@ -1,7 +1,8 @@
 //! The current tree of a volume as a folder.
 use crate::asking::{bytes_of, listing_of, names_of, whole_file};
 use crate::volume::{Volume, applied};
-use nl_folders::{Folder, FolderError, Name};
+use nl_folders::{Folder, FolderError};
+use nl_names::Name;
 use nl_types::{Event, Items, Named};
 use std::alloc::Global;
 

@@ -10,7 +10,8 @@ ghost use Rattle.nl_keep.specs.Private.Judged.{all_follow, follows, is_entry, is
 
 use crate::asking::are_names;
 use crate::storing::KeepError;
-use nl_folders::{Name, Path};
+use nl_folders::Path;
+use nl_names::Name;
 use nl_types::limits::{FILE_LIMIT, PATH_LENGTH_LIMIT, PATH_LIMIT};
 use nl_types::{Object, VolError};
 

@@ -10,8 +10,9 @@ ghost use Rattle.nl_keep_pen.specs.Compared.{DifferBy, KnownFiles, KnownFiles-pr
 
 use crate::PenVolume;
 use nl_device::Device;
-use nl_folders::{Difference, FolderError, Knowledge, Name, Path, folder_differences};
+use nl_folders::{Difference, FolderError, Knowledge, Path, folder_differences};
 use nl_keep::CheckpointFolder;
+use nl_names::Name;
 use nl_types::{CheckpointNumber, Items, VolError};
 use std::alloc::Global;
 

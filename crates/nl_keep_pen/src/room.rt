@@ -13,11 +13,11 @@ use crate::capacity::most_segments;
 use crate::rounds::{Cleaning, Round};
 use nl_core::Pen;
 use nl_device::Device;
-use nl_folders::{Path, all_differences, find_in};
+use nl_folders::{Path, difference_between, find_in};
 use nl_keep::laws;
 use nl_sufile::Sustat;
 use nl_types::{BLOCK_SIZE, Event, Geometry, MAX_PAYLOAD, Object, Reply, VolError};
-use std::alloc::{AllocError, Global};
+use std::alloc::Global;
 
 /// How many blocks of a log there are for each summary block, at most.
 const PAYLOAD: u64 = MAX_PAYLOAD as u64;
@@ -93,24 +93,35 @@ fn inode_blocks(changed: u64, all: u64) -> u64 {
         .saturating_add(2)
 }
 
+/// How many blocks an object takes that stands where another one stood.
+fn object_blocks(old: Option<&Object>, new: &Object) -> u64 {
+    match new {
+        Object::Dir => 0,
+        Object::File(bytes) => file_blocks(old, bytes.as_slice()),
+    }
+}
+
 /// How many blocks the calls write, at most, that make a tree another.
-fn blocks_between(
-    alloc: Global,
-    old: &[(Path, Object)],
-    new: &[(Path, Object)],
-) -> Result<u64, AllocError> {
-    let differences = all_differences(alloc, old, new)?;
+fn blocks_between(old: &[(Path, Object)], new: &[(Path, Object)]) -> u64 {
     let mut blocks: u64 = 0;
-    for (path, _) in differences.as_slice() {
+    let mut same: u64 = 0;
+    let mut added: u64 = 0;
+    for (path, object) in new {
         let earlier = find_in(old, path.as_slice());
-        if let Some(Object::File(bytes)) = find_in(new, path.as_slice()) {
-            blocks = blocks.saturating_add(file_blocks(earlier, bytes.as_slice()));
+        if difference_between(earlier, Some(object)).is_none() {
+            same = same.saturating_add(1);
+        } else {
+            blocks = blocks.saturating_add(object_blocks(earlier, object));
+        }
+        if earlier.is_none() {
+            added = added.saturating_add(1);
         }
     }
-    let changed = differences.len() as u64;
     let all = (old.len() as u64).max(new.len() as u64);
+    let either = (old.len() as u64).saturating_add(added);
+    let changed = either.saturating_sub(same);
     let tables = inode_blocks(changed, all).saturating_add(directory_blocks(new));
-    Ok(blocks.saturating_add(tables))
+    blocks.saturating_add(tables)
 }
 
 /// How many blocks a segment has beside the summaries of its logs. A last block alone has no place for a log.
@@ -244,7 +255,7 @@ impl<'t> Room<'t> {
         let stat = pen.segments().sustat();
         let most_segments = u64::from(most_segments(pen.segments().blocks()));
         let blocks = u64::from(pen.segments().blocks());
-        let written = blocks_between(self.alloc, earlier, self.wanted)?;
+        let written = blocks_between(earlier, self.wanted);
         let lacking = segments_for(written, blocks).saturating_sub(stat.clean as u64);
         let segment_bytes = blocks.saturating_mul(BLOCK_SIZE as u64);
         let most = most_segments.min(self.most / segment_bytes.max(1));

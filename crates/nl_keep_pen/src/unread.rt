@@ -6,8 +6,9 @@ ghost use Rattle.nl_folders.specs.Refusals.{RefusesTree};
 ghost use Rattle.nl_manifests.specs.HostTrees.{last_name, manifest_name, parted};
 ghost use Rattle.nl_manifests.specs.Unread.{unread};
 
-use nl_folders::{Folder, FolderError, Name, Tree, whole_tree};
+use nl_folders::{Folder, FolderError, Tree, whole_tree};
 use nl_keep::{CheckpointFolder, Volume, judge_kept};
+use nl_names::Name;
 use nl_types::{CheckpointNumber, Items, Named, VolError};
 use std::alloc::Global;
 

@@ -10,7 +10,8 @@ ghost use Rattle.nl_manifests.specs.Manifests.{IsManifest, ascend};
 
 use crate::attributes::Attributes;
 use crate::manifest::{Line, Manifest};
-use nl_folders::{Name, Path, compare, find_in};
+use nl_folders::{Path, compare, find_in};
+use nl_names::Name;
 use std::marker::Model;
 
 // ---- entries

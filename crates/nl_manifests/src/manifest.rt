@@ -4,7 +4,6 @@ ghost use Rattle.std.specs.List.{list_all};
 ghost use Rattle.nl_manifests.specs.Manifests.{are_lines, ascend, is_kind, is_line, is_manifest, is_text};
 
 use crate::attributes::{Attributes, are_attributes};
-use nl_folders::Name;
 use nl_types::Items;
 
 /// What a line is of.
@@ -18,7 +17,7 @@ pub enum LineKind {
 /// A file or a link in a directory.
 #[derive(Drop)]
 pub struct Line {
-    pub name: Name,
+    pub name: Items<u8>,
     pub kind: LineKind,
     pub attributes: Attributes,
 }

@@ -6,7 +6,7 @@ ghost use Rattle.nl_types.specs.Plain.Trees.{name_below};
 ghost use Rattle.nl_manifests.specs.HostTrees.{manifest_name};
 ghost use Rattle.nl_manifests.specs.Private.Sealing.{only_name};
 
-use nl_folders::Name;
+use nl_names::Name;
 
 pub(crate) fn is_manifest_name(name: &[u8]) -> bool
     ensures { result ≡ same_name name.now manifest_name }

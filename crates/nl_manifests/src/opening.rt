@@ -18,7 +18,8 @@ use crate::names::is_manifest_name;
 use crate::ordered::put;
 use crate::reading::read_manifest;
 use crate::refusing::refused_lines;
-use nl_folders::{Name, Path, copied, with_name};
+use nl_folders::{Path, copied, with_name};
+use nl_names::Name;
 use nl_types::{Items, Object, is_name};
 use std::alloc::{AllocError, Global};
 

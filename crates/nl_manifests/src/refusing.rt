@@ -9,7 +9,8 @@ ghost use Rattle.nl_manifests.specs.Private.Opening.{refused_lines};
 use crate::host_tree::LineFault;
 use crate::looking::{Entries, Known};
 use crate::manifest::{Line, LineKind};
-use nl_folders::{Name, Path, with_name};
+use nl_folders::{Path, with_name};
+use nl_names::Name;
 use nl_types::{Items, Object, is_name};
 use std::alloc::{AllocError, Global};
 

@@ -2,7 +2,8 @@
 ghost use Rattle.std.specs.Prelude.{◌≡◌, ◌++◌, ◌∷◌, [], IfOk, OnOk, Some};
 ghost use Rattle.nl_pins.specs.Trees.{before_pins, behind_pins, is_before_pins, is_of_pins, pins_path, with_pins, without_pins};
 
-use nl_folders::{Name, Path, Tree, compare};
+use nl_folders::{Path, Tree, compare};
+use nl_names::Name;
 use nl_types::{Items, Object};
 use std::alloc::{AllocError, Global};
 
@@ -21,7 +22,7 @@ pub fn path_of_pins(alloc: Global) -> Result<Path, AllocError>
     ensures { IfOk result (λ path. path ≡ pins_path) }
 {
     let mut path = Items::new(alloc);
-    path.push(Items::from_slice(alloc, b".nlkeep-pins".as_slice())?)?;
+    path.push(Name::new(alloc, b".nlkeep-pins".as_slice())?)?;
     Ok(path)
 }
 

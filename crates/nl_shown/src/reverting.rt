@@ -7,8 +7,9 @@ ghost use Rattle.nl_shown.specs.Reverted.{IsInOrder, IsReverted, RefusesRevert, 
 ghost use Rattle.nl_shown.specs.Private.Inserting.{FoldersAbove, IsWithoutPart, PutsFolder, RefusesFolder, RefusesFolders, before_path, behind_path, entry_with, inserted, inside, is_before, outside, standing_of, with_attributes};
 
 use crate::parts::is_directory;
-use nl_folders::{Name, Path, begins_with, compare, copied, find_in, is_same_path};
+use nl_folders::{Path, begins_with, compare, copied, find_in, is_same_path};
 use nl_manifests::{Attributes, HostEntry, HostObject, HostTree};
+use nl_names::Name;
 use nl_types::Items;
 use std::alloc::{AllocError, Global};
 

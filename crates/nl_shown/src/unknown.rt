@@ -6,8 +6,9 @@ ghost use Rattle.nl_shown.specs.Reverted.{IsInOrder};
 ghost use Rattle.nl_shown.specs.Unknown.{comes_alone, is_lost, known_now, lost_entry, private_attributes, private_entry, with_lost, with_private};
 
 use crate::parts::is_directory;
-use nl_folders::{Name, Path, begins_with, find_in};
+use nl_folders::{Path, begins_with, find_in};
 use nl_manifests::{Attributes, HostEntry, HostObject, HostTree, Time};
+use nl_names::Name;
 use nl_types::Items;
 use std::alloc::{AllocError, Global};
 

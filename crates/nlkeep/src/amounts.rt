@@ -1,7 +1,8 @@
 //! How much a checkpoint shows.
-use nl_folders::{Name, Path, spelled};
+use nl_folders::{Path, spelled};
 use nl_keep::Volume;
 use nl_manifests::{HostEntry, HostObject};
+use nl_names::Name;
 use nl_types::{Answer, Ask, CheckpointNumber, Reply, Stat, VolError};
 use std::alloc::Global;
 

@@ -3,9 +3,10 @@ use crate::asking::word;
 use crate::complaining::complain;
 use crate::faults::{Fault, fault_at};
 use clap::ArgMatches;
-use nl_folders::{Name, Path};
+use nl_folders::Path;
 use nl_host::Pattern;
 use nl_manifests::{HostEntry, HostObject};
+use nl_names::Name;
 use std::alloc::{AllocError, Global};
 use std::{fs, io, str};
 

@@ -3,8 +3,8 @@
 use crate::checkpoints::is_minor;
 use crate::faults::Fault;
 use crate::printing::{Printer, Seen};
-use nl_folders::Name;
 use nl_manifests::{Attributes, HostDifference, HostObject, Time};
+use nl_names::Name;
 use nl_types::{Mode, Row};
 use serde::Serialize;
 use std::alloc::{AllocError, Global};

@@ -1,7 +1,8 @@
 //! Folders that have a manifest which is none, as damage leaves it.
 use crate::printing::{Printer, errors};
-use nl_folders::{Name, Path, begins_with, find_in};
+use nl_folders::{Path, begins_with, find_in};
 use nl_manifests::{HostEntry, HostObject};
+use nl_names::Name;
 use std::io::{self, Write};
 
 /// The name that a manifest has.

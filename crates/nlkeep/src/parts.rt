@@ -2,6 +2,7 @@
 use crate::faults::{Fault, fault_at};
 use nl_folders::Path;
 use nl_manifests::HostTree;
+use nl_names::Name;
 use nl_shown::part_at;
 use nl_types::Items;
 use std::alloc::{AllocError, Global};
@@ -12,7 +13,7 @@ pub fn path_said(alloc: Global, word: &str) -> Result<Path, AllocError> {
     let mut path = Items::new(alloc);
     for name in word.split('/') {
         if !name.is_empty() && name != "." {
-            path.push(Items::from_slice(alloc, name.as_bytes())?)?;
+            path.push(Name::new(alloc, name.as_bytes())?)?;
         }
     }
     Ok(path)

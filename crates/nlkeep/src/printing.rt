@@ -1,9 +1,10 @@
 //! What goes to standard output and error.
 use crate::complaining::complain;
 use crate::parts::path_said;
-use nl_folders::{Name, Path, begins_with};
+use nl_folders::{Path, begins_with};
 use nl_host::{LeftOut, Reason};
 use nl_manifests::{Attributes, HostDifference, HostEntry, HostObject, LineFault};
+use nl_names::Name;
 use std::alloc::{AllocError, Global};
 use std::fmt::Display;
 use std::io::{self, Stderr, Write};

@@ -15,6 +15,7 @@ use nl_host::{Manner, Reason};
 use nl_keep_pen::OpenedVolume;
 use nl_layout::CheckpointEntry;
 use nl_manifests::{LineFault, Opened, open};
+use nl_names::Name;
 use nl_pins::{is_of_pins, without_pins};
 use nl_types::{CheckpointNumber, Geometry, Items, VolError};
 use std::alloc::{AllocError, Global};
@@ -28,7 +29,7 @@ fn below_number(
     mut path: Path,
 ) -> Result<Path, AllocError> {
     let name = format!(in alloc; "{}", number.get())?;
-    path.push_front(Items::from_slice(alloc, name.as_bytes())?)?;
+    path.push_front(Name::new(alloc, name.as_bytes())?)?;
     Ok(path)
 }
 

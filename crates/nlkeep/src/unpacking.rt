@@ -2,9 +2,10 @@
 use crate::faults::{Fault, fault_at, system_fault, told};
 use crate::gauge::{Gauge, MOST_BYTES, Stop};
 use crate::printing::Printer;
-use nl_folders::{Name, Path, Tree, begins_with};
+use nl_folders::{Path, Tree, begins_with};
 use nl_host::Reason;
 use nl_manifests::{Attributes, HostEntry, HostObject, HostTree, SealError, Time, seal};
+use nl_names::Name;
 use nl_pins::is_of_pins;
 use nl_tar::{Fault as ArchiveFault, Field, InputError, Limits, Loss, Note, Refusal, Unpacked};
 use nl_types::Items;
