@@ -2,6 +2,7 @@
 use Rattle.std.proofs.Common.{◌≡◌, ℕ, Bor, Bool, true, false, cond, ◌||◌, List, [], ◌∷◌, Option, Some, None, refl, sym, ap, ◌∙◌, subst, is_some, true≢false, eq-eqb}
 use Rattle.std.specs.Prelude.{◌==◌, option_and_then}
 use Rattle.std.specs.Option.{option_copied}
+use Rattle.std.proofs.lemmas.Option.{same_Some}
 use Rattle.std.specs.FinMap.{find}
 use Rattle.std.specs.Str.{bytes_eq}
 use Rattle.std.proofs.lemmas.Slice.Eq.{bytes_eq-Decides}
@@ -133,6 +134,31 @@ shows_anything w n copy top shown is kept shows told =
     ap is_some (shown_of w n copy top kept) ∙ sym (is_shown (without_pins copy.tree) top)
     ∙ sym (ap is_some (shows.each top)) ∙ sym told
 
+-- What both trees show without bytes, and what differs between them beside their pins, tell all that differs between
+-- what they show.
+pub whole_told : DifferencesAreExact → DifferencesNeedNoBytes → (one other : Tree) → IsTree one → IsTree other
+    → (of_objects : Differences) (before after : HostTree) (all : HostDifferences)
+    → of_objects ≡ without_pins (differences one other)
+    → Shows (unread (without_pins one)) before → Shows (unread (without_pins other)) after
+    → all ≡ differences_by (told_by of_objects) before after
+    → (x : HostTree) × Shows (without_pins one) x × (y : HostTree) × Shows (without_pins other) y
+    × (all ≡ host_differences x y)
+whole_told exact need_none one other first second of_objects before after all of is_before is_after told =
+    let old = without_pins one in
+    let new = without_pins other in
+    let old_shown = whole_shown old before is_before in
+    let new_shown = whole_shown new after is_after in (
+      old_shown.0,
+      old_shown.1,
+      new_shown.0,
+      new_shown.1,
+      told
+          ∙ (λ i. differences_by ((ap told_by of
+          ∙ told_pinless exact one other first.ordered second.ordered) i) before after)
+          ∙ need_none old new old_shown.0 new_shown.0 before after (sorted_pinless one first.ordered)
+          (sorted_pinless other second.ordered) old_shown.1 new_shown.1 is_before is_after,
+    )
+
 module _ (exact : DifferencesAreExact) (need_none : DifferencesNeedNoBytes) (host_exact : HostDifferencesAreExact)
     (w : World) (m n : ℕ) where
   of_copies : (one other : Copy) → copy_at w m ≡ Some one → copy_at w n ≡ Some other → IsTree one.tree
@@ -143,20 +169,27 @@ module _ (exact : DifferencesAreExact) (need_none : DifferencesNeedNoBytes) (hos
       → all ≡ differences_by (told_by of_objects) before after
       → (p : Path) → find path_cmp p all ≡ difference_in w m n p
   of_copies one other in_m in_n first second of_objects before after all of is_before is_after told p =
-      let old = without_pins one.tree in
-      let new = without_pins other.tree in
-      let old_shown = whole_shown old before is_before in
-      let new_shown = whole_shown new after is_after in
-      let whole : all ≡ host_differences old_shown.0 new_shown.0 =
-      told
-      ∙ (λ i. differences_by ((ap told_by of
-      ∙ told_pinless exact one.tree other.tree first.ordered second.ordered) i) before after)
-      ∙ need_none old new old_shown.0 new_shown.0 before after (sorted_pinless one.tree first.ordered)
-      (sorted_pinless other.tree second.ordered) old_shown.1 new_shown.1 is_before is_after in
-      ap (λ (d : HostDifferences). find path_cmp p d) whole
-      ∙ host_exact old_shown.0 new_shown.0 old_shown.1.ordered new_shown.1.ordered p
-      ∙ (λ i. host_difference_of ((old_shown.1.each p ∙ sym (shown_of w m one p in_m)) i)
-      ((new_shown.1.each p ∙ sym (shown_of w n other p in_n)) i))
+      let d = whole_told exact need_none one.tree other.tree first second of_objects before after all of is_before
+      is_after told in
+      let shows_old : Shows (without_pins one.tree) d.0 = d.1 in
+      let shows_new : Shows (without_pins other.tree) d.2 = d.3 in
+      ap (λ (all : HostDifferences). find path_cmp p all) d.4
+      ∙ host_exact d.0 d.2 shows_old.ordered shows_new.ordered p
+      ∙ (λ i. host_difference_of ((shows_old.each p ∙ sym (shown_of w m one p in_m)) i)
+      ((shows_new.each p ∙ sym (shown_of w n other p in_n)) i))
+
+  -- and of two checkpoints that are kept
+  pub trees_differ : (of_trees of_objects : Differences) (one other : Copy) → DifferBy m n of_trees w
+      → copy_at w m ≡ Some one → copy_at w n ≡ Some other → of_objects ≡ without_pins of_trees
+      → of_objects ≡ without_pins (differences one.tree other.tree)
+  trees_differ of_trees of_objects one other differ in_m in_n of =
+      let before = differ.keeps_before in
+      let after = differ.keeps_after in
+      let same_one : one.tree ≡ differ.before =
+      ap (λ (c : Copy). c.tree) (same_Some one before.copy (sym in_m ∙ before.kept)) ∙ before.has in
+      let same_other : other.tree ≡ differ.after =
+      ap (λ (c : Copy). c.tree) (same_Some other after.copy (sym in_n ∙ after.kept)) ∙ after.has in
+      of ∙ ap without_pins (differ.exact ∙ (λ i. differences (sym same_one i) (sym same_other i)))
 
   -- what differs between two checkpoints, without pins, and what both show without bytes, tell all
   pub shown_differ : IsWorld w → (of_trees of_objects : Differences) (before after : HostTree)

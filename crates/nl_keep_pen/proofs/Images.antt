@@ -161,7 +161,7 @@ module _ (one : ImagesMeanOneWorld) (image : List ℕ) (opened : Layout) (of : I
   abbrev v : World
   v = of.pen.world.0
 
-  same_world : (w : World) → ImageMeans (with_present_mark image) w → SameBut w v
+  pub same_world : (w : World) → ImageMeans (with_present_mark image) w → SameBut w v
   same_world w from =
       one from.layout opened (with_present_mark image) w v from.pen of.pen from.is_image of.is_image
       from.closed of.closed from.means of.pen.world.1
@@ -179,6 +179,13 @@ module _ (one : ImagesMeanOneWorld) (image : List ℕ) (opened : Layout) (of : I
         kept = ap (λ (x : World). copy_at x n) (same_world w from) ∙ keeps.kept;
         has = keeps.has;
       }
+
+  pub reads_there : (n : ℕ) (copy : Copy) → copy_at v n ≡ Some copy → ReadsFromImage n copy.tree image
+  reads_there n copy kept w from = record {
+    copy = copy;
+    kept = ap (λ (x : World). copy_at x n) (same_world w from) ∙ kept;
+    has = refl;
+  }
 
   pub has_pins : (number : ℕ) (pins : Option (List ℕ)) → ((w : World) → MeansWorld opened w → number ≡ latest w)
       → ((w : World) (copy : Copy) → MeansWorld opened w → copy_at w number ≡ Some copy

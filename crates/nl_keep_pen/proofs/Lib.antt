@@ -1,5 +1,6 @@
 pub mod KnownFiles
 pub mod Images
+mod LookedAt
 pub mod Runs
 pub mod UnreadAnswers
 pub mod PinlessTrees

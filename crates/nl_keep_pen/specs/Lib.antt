@@ -2,6 +2,7 @@ pub mod Compared
 pub mod Folders
 pub mod History
 pub mod Images
+pub mod Looking
 pub mod Opened
 pub mod Pins
 pub mod Runs

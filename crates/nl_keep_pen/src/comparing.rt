@@ -19,7 +19,7 @@ use std::alloc::Global;
 /// The files that are one in two kept checkpoints of a volume, as their inodes tell: kind, size and root are
 /// equal. No block of a file is read to see it.
 #[derive(Drop)]
-pub struct SameFiles<'a, D: Device> {
+pub(crate) struct SameFiles<'a, D: Device> {
     volume: &'a PenVolume<D>,
     old: CheckpointNumber,
     new: CheckpointNumber,
@@ -84,7 +84,7 @@ fn judge_both<D: Device>(
 ///
 /// # Errors
 /// `Refused` by `NoCheckpoint` where one of the two isn't kept; else as `folder_differences` of `nl_folders`.
-pub fn checkpoint_differences<D: Device>(
+pub(crate) fn checkpoint_differences<D: Device>(
     alloc: Global,
     volume: &PenVolume<D>,
     old: CheckpointNumber,

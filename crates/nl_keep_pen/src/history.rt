@@ -1,5 +1,5 @@
 //! Where in the history of a volume something changed at or below a path.
-ghost use Rattle.std.specs.Prelude.{◌≡◌, ◌++◌, ◌∷◌, [], if◌then◌else◌, Err, IfErr, IfOk, IsTrue, None, OnOk, Some};
+ghost use Rattle.std.specs.Prelude.{◌≡◌, ◌⊎◌, ◌++◌, ◌∷◌, [], if◌then◌else◌, Err, IfErr, IfOk, IsTrue, None, OnOk, Some};
 ghost use Rattle.std.specs.FinMap.{find};
 ghost use Rattle.std.specs.List.{cons_option};
 ghost use Rattle.nl_types.specs.Plain.NumberLists.{is_one_of};
@@ -7,17 +7,16 @@ ghost use Rattle.nl_types.specs.Plain.Paths.{Path, path_cmp};
 ghost use Rattle.nl_types.specs.Plain.Worlds.{World, Copy, copy_at};
 ghost use Rattle.nl_commit.specs.Layout.{MeansWorld};
 ghost use Rattle.nl_folders.specs.Refusals.{RefusesTree};
-ghost use Rattle.nl_manifests.specs.HostTrees.{Shows};
-ghost use Rattle.nl_manifests.specs.Unread.{unread};
-ghost use Rattle.nl_pins.specs.Trees.{without_pins};
+ghost use Rattle.nl_keep.specs.Stored.{IsKept};
 ghost use Rattle.nl_keep_pen.specs.History.{AreChanges, AreKept, IsChange, LacksOne, RefusesOne, any_within, difference_in};
+ghost use Rattle.nl_keep_pen.specs.Looking.{ShowsBare, TellDifferences};
 
 use crate::PenVolume;
 use crate::comparing::{checkpoint_differences, judge_kept};
 use crate::unread::unread_tree;
 use nl_device::Device;
 use nl_folders::{FolderError, Path, begins_with, find_in};
-use nl_manifests::{HostDifference, HostTree, host_differences, open};
+use nl_manifests::{HostDifference, Opened, host_differences, open};
 use nl_names::Name;
 use nl_pins::without_pins;
 use nl_types::{CheckpointNumber, Items, VolError};
@@ -27,31 +26,52 @@ use std::alloc::{AllocError, Global};
 
 /// What a kept checkpoint shows, but for the bytes of files: of these, manifests alone are read. Pins are no part
 /// of it.
-fn shown_tree<D: Device>(
+pub(crate) fn unread_shown<D: Device>(
     alloc: Global,
     volume: &PenVolume<D>,
     number: CheckpointNumber,
-) -> Result<HostTree, FolderError>
-    ensures shows { IfOk result (λ shown. (w : World) (copy : Copy) → MeansWorld volume.now.pen w
-        → copy_at w number ≡ Some copy → Shows (unread (without_pins copy.tree)) shown) }
+) -> Result<Opened, FolderError>
+    ensures kept { OnOk result ((w : World) → MeansWorld volume.now.pen w → IsKept number w) }
+    ensures shows { IfOk result (λ opened. (w : World) (copy : Copy) → MeansWorld volume.now.pen w
+        → copy_at w number ≡ Some copy → ShowsBare copy.tree opened) }
+    ensures missing { (w : World) → MeansWorld volume.now.pen w → copy_at w number ≡ None
+        → IfErr result (λ e. (e ≡ FolderError.Refused VolError.Memory)
+        ⊎ (e ≡ FolderError.Refused VolError.NoCheckpoint)) }
     ensures refused { IfErr result (λ e. (w : World) (copy : Copy) → MeansWorld volume.now.pen w
         → copy_at w number ≡ Some copy → RefusesTree copy.tree e) }
 {
     let tree = unread_tree(alloc, volume, number)?;
     let tree = without_pins(alloc, tree)?;
     let opened = open(alloc, tree.as_slice())?;
-    Ok(opened.tree)
+    Ok(opened)
 }
 
-/// All that differs between what two kept checkpoints show, in the order of the paths.
-fn shown_differences<D: Device>(
+/// What two kept checkpoints show, but for the bytes of files, and all that differs between what they show.
+#[derive(Drop)]
+pub struct ShownDifferences {
+    pub before: Opened,
+    pub after: Opened,
+    /// In the order of the paths.
+    pub all: Items<(Path, HostDifference)>,
+}
+
+/// All that differs between what two kept checkpoints show.
+pub(crate) fn shown_differences<D: Device>(
     alloc: Global,
     volume: &PenVolume<D>,
     old: CheckpointNumber,
     new: CheckpointNumber,
-) -> Result<Items<(Path, HostDifference)>, FolderError>
-    ensures differ { IfOk result (λ all. (w : World) (path : Path) → MeansWorld volume.now.pen w
-        → find path_cmp path all ≡ difference_in w old new path) }
+) -> Result<ShownDifferences, FolderError>
+    ensures kept_old { OnOk result ((w : World) → MeansWorld volume.now.pen w → IsKept old w) }
+    ensures kept_new { OnOk result ((w : World) → MeansWorld volume.now.pen w → IsKept new w) }
+    ensures tells { IfOk result (λ told. (w : World) (one other : Copy) → MeansWorld volume.now.pen w
+        → copy_at w old ≡ Some one → copy_at w new ≡ Some other
+        → TellDifferences one.tree other.tree told) }
+    ensures differ { IfOk result (λ told. (w : World) (path : Path) → MeansWorld volume.now.pen w
+        → find path_cmp path told.all ≡ difference_in w old new path) }
+    ensures missing { (w : World) → MeansWorld volume.now.pen w
+        → (copy_at w old ≡ None) ⊎ (copy_at w new ≡ None)
+        → result ≡ Err (FolderError.Refused VolError.NoCheckpoint) }
     ensures refused { IfErr result (λ e. (w : World) → MeansWorld volume.now.pen w
         → AreKept (old ∷ new ∷ []) w → RefusesOne (old ∷ new ∷ []) e w) }
 {
@@ -60,15 +80,15 @@ fn shown_differences<D: Device>(
     nl_manifests::laws::host_differences_are_exact();
     let of_objects = checkpoint_differences(alloc, volume, old, new)?;
     let of_objects = without_pins(alloc, of_objects)?;
-    let before = shown_tree(alloc, volume, old)?;
-    let after = shown_tree(alloc, volume, new)?;
+    let before = unread_shown(alloc, volume, old)?;
+    let after = unread_shown(alloc, volume, new)?;
     let all = host_differences(
         alloc,
-        before.as_slice(),
-        after.as_slice(),
+        before.tree.as_slice(),
+        after.tree.as_slice(),
         of_objects.as_slice(),
     )?;
-    Ok(all)
+    Ok(ShownDifferences { before, after, all })
 }
 
 // ---- at and below a path
@@ -101,8 +121,8 @@ fn differ_below<D: Device>(
     if volume.pen.is_same_tree(old, new) {
         return Ok(false);
     }
-    let all = shown_differences(alloc, volume, old, new)?;
-    Ok(is_any_within(all.as_slice(), top))
+    let told = shown_differences(alloc, volume, old, new)?;
+    Ok(is_any_within(told.all.as_slice(), top))
 }
 
 /// Whether a kept checkpoint shows anything at a path.
@@ -117,8 +137,8 @@ fn shows_anything<D: Device>(
     ensures refused { IfErr result (λ e. (w : World) → MeansWorld volume.now.pen w
         → AreKept (number ∷ []) w → RefusesOne (number ∷ []) e w) }
 {
-    let shown = shown_tree(alloc, volume, number)?;
-    Ok(find_in(shown.as_slice(), path).is_some())
+    let shown = unread_shown(alloc, volume, number)?;
+    Ok(find_in(shown.tree.as_slice(), path).is_some())
 }
 
 // ---- lists of checkpoints
@@ -181,7 +201,7 @@ fn add_if(
 /// # Errors
 /// `Refused` by `NoCheckpoint` where one of the list isn't kept; else as `folder_differences` of `nl_folders`,
 /// for one of its trees.
-pub fn changed_at<D: Device>(
+pub(crate) fn changed_at<D: Device>(
     alloc: Global,
     volume: &PenVolume<D>,
     numbers: &[CheckpointNumber],

@@ -6,6 +6,7 @@ mod capacity;
 mod comparing;
 mod history;
 pub mod laws;
+mod looking;
 mod opened;
 mod pins;
 mod room;
@@ -13,8 +14,7 @@ mod rounds;
 mod unread;
 
 pub use capacity::Capacity;
-pub use comparing::checkpoint_differences;
-pub use history::changed_at;
+pub use history::ShownDifferences;
 use nl_core::Pen;
 use nl_device::Device;
 use nl_keep::Volume;
@@ -22,7 +22,7 @@ use nl_types::{Ask, CheckpointNumber, Event, Reply};
 pub use opened::{OpenedVolume, format_image};
 pub use room::{Effort, Room};
 pub use rounds::Cleaning;
-pub use unread::{is_manifest_path, unread_tree};
+pub use unread::is_manifest_path;
 
 /// A pen, as a volume that keeps trees.
 #[derive(Drop)]

@@ -152,7 +152,7 @@ fn forget_and_tidy<D: Device>(
 /// mounted, so it can be closed.
 #[derive(Drop)]
 pub struct OpenedVolume {
-    volume: PenVolume<MemDevice>,
+    pub(crate) volume: PenVolume<MemDevice>,
     ghost rest: { CanBeClosed volume.pen.lists },
 }
 

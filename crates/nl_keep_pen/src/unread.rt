@@ -1,8 +1,9 @@
 //! Checkpoints of which no file is read but manifests.
-ghost use Rattle.std.specs.Prelude.{◌≡◌, ◌⊎◌, IfErr, IfOk, None, Some};
+ghost use Rattle.std.specs.Prelude.{◌≡◌, ◌⊎◌, IfErr, IfOk, None, OnOk, Some};
 ghost use Rattle.nl_types.specs.Plain.Paths.{same_name};
 ghost use Rattle.nl_types.specs.Plain.Worlds.{World, Copy, copy_at};
 ghost use Rattle.nl_folders.specs.Refusals.{RefusesTree};
+ghost use Rattle.nl_keep.specs.Stored.{IsKept};
 ghost use Rattle.nl_manifests.specs.HostTrees.{last_name, manifest_name, parted};
 ghost use Rattle.nl_manifests.specs.Unread.{unread};
 
@@ -68,13 +69,14 @@ impl<V: Volume> Folder for UnreadFolder<'_, V> {
 ///
 /// # Errors
 /// As `checkpoint_tree` of `nl_keep`.
-pub fn unread_tree<V: Volume>(
+pub(crate) fn unread_tree<V: Volume>(
     alloc: Global,
     volume: &V,
     number: CheckpointNumber,
 ) -> Result<Tree, FolderError>
     ensures tree { IfOk result (λ tree. (w : World) (copy : Copy) → V.means volume.now w
         → copy_at w number ≡ Some copy → tree ≡ unread copy.tree) }
+    ensures kept { OnOk result ((w : World) → V.means volume.now w → IsKept number w) }
     ensures missing { (w : World) → V.means volume.now w → copy_at w number ≡ None
         → IfErr result (λ e. (e ≡ FolderError.Refused VolError.Memory)
         ⊎ (e ≡ FolderError.Refused VolError.NoCheckpoint)) }

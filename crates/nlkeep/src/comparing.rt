@@ -1,11 +1,11 @@
 //! What differs between two trees.
-use crate::faults::{Fault, tree_fault};
+use crate::faults::Fault;
 use crate::json::{DifferenceObject, object};
 use crate::manifests::tell_bad_manifests;
 use crate::printing::{Printer, Seen};
 use crate::views::{View, shown_alone};
-use nl_folders::{Difference, Path, all_differences, begins_with, find_in};
-use nl_keep_pen::checkpoint_differences;
+use nl_folders::{Path, all_differences, begins_with, find_in};
+use nl_keep_pen::ShownDifferences;
 use nl_manifests::{HostDifference, HostTree, host_differences};
 use nl_names::Name;
 use nl_types::{CheckpointNumber, Items, Object};
@@ -89,19 +89,10 @@ pub fn tell_differences<W: Write>(
     Ok(all.len())
 }
 
-/// What two kept checkpoints show, but for the bytes of files, and all that differs.
-#[derive(Drop)]
-struct Compared {
-    old: HostTree,
-    new: HostTree,
-    all: Items<(Path, HostDifference)>,
-}
-
-impl Compared {
-    /// Whether one of the two shows something at a path.
-    fn has(&self, path: &[Name]) -> bool {
-        find_in(self.old.as_slice(), path).is_some() || find_in(self.new.as_slice(), path).is_some()
-    }
+/// Whether one of two checkpoints shows something at a path.
+fn show_any(told: &ShownDifferences, path: &[Name]) -> bool {
+    let (old, new) = (told.before.tree.as_slice(), told.after.tree.as_slice());
+    find_in(old, path).is_some() || find_in(new, path).is_some()
 }
 
 /// Two kept checkpoints of a volume that are compared.
@@ -117,37 +108,25 @@ pub struct Comparing<'a> {
 }
 
 impl Comparing<'_> {
-    fn of_objects(&self, alloc: Global) -> Result<Items<(Path, Difference)>, Fault> {
-        match checkpoint_differences(alloc, self.view.volume(), self.old, self.new) {
-            Ok(all) => Ok(all),
-            Err(error) => Err(tree_fault(alloc, self.view.path, error)),
-        }
-    }
-
-    /// It reads manifests, and no file that both have by one inode.
-    fn compared(&self, alloc: Global) -> Result<Compared, Fault> {
-        let of_objects = self.of_objects(alloc)?;
-        let old = self.view.shown_tree(alloc, self.old)?;
-        let new = self.view.shown_tree(alloc, self.new)?;
-        let all = host_differences(alloc, old.as_slice(), new.as_slice(), of_objects.as_slice())?;
-        Ok(Compared { old, new, all })
+    fn compared(&self, alloc: Global) -> Result<ShownDifferences, Fault> {
+        self.view.differences(alloc, self.old, self.new)
     }
 
     /// Tells what differs at a path.
     fn tell_one<W: Write>(
         &self,
         alloc: Global,
-        compared: &Compared,
+        compared: &ShownDifferences,
         path: &[Name],
         difference: HostDifference,
         printer: &mut Printer<W>,
     ) -> Result<(), Fault> {
         let old = self
             .view
-            .seen(alloc, self.old, compared.old.as_slice(), path)?;
+            .seen(alloc, self.old, compared.before.tree.as_slice(), path)?;
         let new = self
             .view
-            .seen(alloc, self.new, compared.new.as_slice(), path)?;
+            .seen(alloc, self.new, compared.after.tree.as_slice(), path)?;
         if self.is_json {
             let told = DifferenceObject::of(alloc, path, difference, old, new)?;
             return object(alloc, &told, printer);
@@ -159,7 +138,7 @@ impl Comparing<'_> {
     fn tell_all<W: Write>(
         &self,
         alloc: Global,
-        compared: &Compared,
+        compared: &ShownDifferences,
         printer: &mut Printer<W>,
     ) -> Result<usize, Fault> {
         let top = self.top;
@@ -175,10 +154,10 @@ impl Comparing<'_> {
     }
 
     /// Tells the manifests of both checkpoints that are none. Answers whether there are none.
-    fn tell_bad(&self, rt: &HostRuntime, compared: &Compared) -> bool {
+    fn tell_bad(&self, rt: &HostRuntime, compared: &ShownDifferences) -> bool {
         let (old, new) = (Some(self.old.get()), Some(self.new.get()));
-        let are_old_good = tell_bad_manifests(rt, compared.old.as_slice(), self.top, old);
-        let are_new_good = tell_bad_manifests(rt, compared.new.as_slice(), self.top, new);
+        let are_old_good = tell_bad_manifests(rt, compared.before.tree.as_slice(), self.top, old);
+        let are_new_good = tell_bad_manifests(rt, compared.after.tree.as_slice(), self.top, new);
         are_old_good && are_new_good
     }
 
@@ -198,7 +177,7 @@ impl Comparing<'_> {
     ) -> Result<Option<(usize, bool)>, Fault> {
         let alloc = rt.alloc();
         let compared = self.compared(alloc)?;
-        if !compared.has(self.top) {
+        if !show_any(&compared, self.top) {
             return Ok(None);
         }
         let are_good = self.tell_bad(rt, &compared);

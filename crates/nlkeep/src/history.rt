@@ -1,7 +1,7 @@
 //! `history` and `find`: where in the history of a volume something stood.
 use crate::asking::{Clock, Outcome, word};
 use crate::checkpoints::is_minor;
-use crate::faults::{Fault, fault_at, tree_fault};
+use crate::faults::{Fault, fault_at};
 use crate::json::{StandingObject, object};
 use crate::moments::shown;
 use crate::parts::path_said;
@@ -9,7 +9,6 @@ use crate::printing::{Printer, Seen};
 use crate::views::View;
 use clap::ArgMatches;
 use nl_folders::Path;
-use nl_keep_pen::changed_at;
 use nl_manifests::HostEntry;
 use nl_names::Name;
 use nl_types::{CheckpointNumber, Items, Row};
@@ -34,10 +33,7 @@ fn changes(
     path: &[Name],
 ) -> Result<Items<CheckpointNumber>, Fault> {
     let numbers = numbers_of(alloc, view.rows.as_slice())?;
-    match changed_at(alloc, view.volume(), numbers.as_slice(), path) {
-        Ok(changes) => Ok(changes),
-        Err(error) => Err(tree_fault(alloc, view.path, error)),
-    }
+    view.changes(alloc, numbers.as_slice(), path)
 }
 
 fn tell_object<W: Write>(

@@ -10,9 +10,8 @@ use crate::parts::path_said;
 use crate::printing::Seen;
 use nl_core::Pen;
 use nl_device::MemDevice;
-use nl_folders::{Folder, FolderError, Path, Tree, copied, find_in};
-use nl_keep::CheckpointFolder;
-use nl_keep_pen::{OpenedVolume, PenVolume, is_manifest_path, unread_tree};
+use nl_folders::{FolderError, Path, Tree, copied, find_in};
+use nl_keep_pen::{OpenedVolume, PenVolume, ShownDifferences, is_manifest_path};
 use nl_manifests::{HostEntry, HostObject, HostTree, Opened, open};
 use nl_names::Name;
 use nl_pins::{Pins, is_of_pins, without_pins};
@@ -205,17 +204,10 @@ impl<'a> View<'a> {
         Ok(open(alloc, tree.as_slice())?)
     }
 
-    fn folder_of(&self, number: CheckpointNumber) -> CheckpointFolder<'_, PenVolume<MemDevice>> {
-        CheckpointFolder {
-            volume: self.volume(),
-            number,
-        }
-    }
-
     /// What a kept checkpoint shows, but for the bytes of files: of these, manifests alone are read.
     pub fn shown(&self, alloc: Global, number: CheckpointNumber) -> Result<Opened, Fault> {
-        match unread_tree(alloc, self.volume(), number) {
-            Ok(tree) => Ok(open(alloc, without_pins(alloc, tree)?.as_slice())?),
+        match self.volume.unread(alloc, number) {
+            Ok(opened) => Ok(opened),
             Err(error) => Err(tree_fault(alloc, self.path, error)),
         }
     }
@@ -233,7 +225,7 @@ impl<'a> View<'a> {
         word: &str,
     ) -> Result<Items<u8>, Fault> {
         let path = path_said(alloc, word)?;
-        match self.folder_of(number).read(alloc, path.as_slice()) {
+        match self.volume.file(alloc, number, path.as_slice()) {
             Ok(bytes) => Ok(bytes),
             Err(FolderError::Refused(VolError::IsDir)) => {
                 Err(fault_at(alloc, word, "is a folder"))
@@ -242,6 +234,33 @@ impl<'a> View<'a> {
                 let shown = self.shown_tree(alloc, number)?;
                 Err(no_file_fault(alloc, word, find_in(shown.as_slice(), path.as_slice())))
             }
+            Err(error) => Err(tree_fault(alloc, self.path, error)),
+        }
+    }
+
+    /// What two kept checkpoints show, but for the bytes of files, and all that differs between what they show. No
+    /// file is read that both have by one inode.
+    pub fn differences(
+        &self,
+        alloc: Global,
+        old: CheckpointNumber,
+        new: CheckpointNumber,
+    ) -> Result<ShownDifferences, Fault> {
+        match self.volume.differences(alloc, old, new) {
+            Ok(differences) => Ok(differences),
+            Err(error) => Err(tree_fault(alloc, self.path, error)),
+        }
+    }
+
+    /// The checkpoints of a list of which something at or below a path is other than at the one before.
+    pub fn changes(
+        &self,
+        alloc: Global,
+        numbers: &[CheckpointNumber],
+        path: &[Name],
+    ) -> Result<Items<CheckpointNumber>, Fault> {
+        match self.volume.changes(alloc, numbers, path) {
+            Ok(changes) => Ok(changes),
             Err(error) => Err(tree_fault(alloc, self.path, error)),
         }
     }

@@ -5,9 +5,9 @@ use Rattle.nl_keep_pen.proofs.history.differ_below.Goals as goal
 
 pub returns-clause-differ : goal.returns-clause-differ
 returns-clause-differ g c w means kept =
-    are_below w c.args.old c.args.new c.args.top.now c.in_ok-all.all c.is_any_within.result
+    are_below w c.args.old c.args.new c.args.top.now c.in_ok-told.told.all c.is_any_within.result
     (c.is_any_within.ensures ∙ ap (any_within c.args.top.now) c.as_slice.ensures)
-    (λ path. c.in_ok-all.ensures.differ w path means)
+    (λ path. c.in_ok-told.ensures.differ w path means)
 
 pub returns-then-is_same_tree-clause-differ : goal.returns-then-is_same_tree-clause-differ
 returns-then-is_same_tree-clause-differ g c w means kept =

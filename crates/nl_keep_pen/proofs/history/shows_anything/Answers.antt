@@ -19,7 +19,7 @@ pub returns-clause-shows : goal.returns-clause-shows
 returns-clause-shows g c w means kept =
     let copy = kept c.args.number (first_is c.args.number []) in
     let shows = c.in_ok-shown.ensures.shows w copy.0 means copy.1 in
-    shows_anything w c.args.number copy.0 c.args.path.now c.in_ok-shown.shown c.is_some.result copy.1 shows
+    shows_anything w c.args.number copy.0 c.args.path.now c.in_ok-shown.shown.tree c.is_some.result copy.1 shows.shows
     (c.is_some.ensures ∙ is_some_copied c.find_in.result
-    ∙ ap is_some (c.find_in.ensures (ap (is_sorted path_cmp) c.as_slice.ensures ∙ shows.ordered))
+    ∙ ap is_some (c.find_in.ensures (ap (is_sorted path_cmp) c.as_slice.ensures ∙ shows.shows.ordered))
     ∙ ap (λ (es : HostTree). is_some (find path_cmp c.args.path.now es)) c.as_slice.ensures)
