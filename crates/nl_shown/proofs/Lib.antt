@@ -1,4 +1,5 @@
 mod Apart
 pub mod Insertions
+pub mod LostTrees
 pub mod RevertedTrees
 pub mod Roots

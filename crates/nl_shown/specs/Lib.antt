@@ -1,4 +1,5 @@
 pub mod Kept
+pub mod Lost
 pub mod Parts
 pub mod Reverted
 pub mod Unknown

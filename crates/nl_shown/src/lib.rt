@@ -3,13 +3,15 @@
 
 mod keeping;
 pub mod laws;
+mod lost;
 mod parts;
 mod reverting;
 mod showing;
 mod unknown;
 
 pub use keeping::kept_tree;
+pub use lost::{coming_back, has_folder, is_bad_manifest};
 pub use parts::part_at;
 pub use reverting::{RevertError, reverted};
 pub use showing::shown_tree;
-pub use unknown::{with_lost, with_private};
+pub use unknown::with_private;

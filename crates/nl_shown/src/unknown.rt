@@ -110,7 +110,7 @@ fn lost_entry(entry: (Path, HostEntry), now: Option<&HostEntry>, top: &[Name]) -
 ///
 /// # Errors
 /// Memory.
-pub fn with_lost(
+pub(crate) fn with_lost(
     alloc: Global,
     earlier: HostTree,
     later: &[(Path, HostEntry)],
