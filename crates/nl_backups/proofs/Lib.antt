@@ -6,3 +6,4 @@ pub mod Outcomes
 pub mod PassedOn
 pub mod Repinned
 pub mod Saved
+pub mod ShownTrees

@@ -1,7 +1,10 @@
 -- What is refused, as a command passes it on.
-use Rattle.std.proofs.Common.{◌≡◌, ℕ, List, Option, inl, inr, subst}
+use Rattle.std.proofs.Common.{◌≡◌, ℕ, List, Option, inl, inr, refl, subst}
+use Rattle.nl_types.specs.Plain.Paths.{Path}
 use Rattle.nl_manifests.specs.declared.manifest.Line.{Line}
 use Rattle.nl_manifests.specs.HostTrees.{HostTree}
+use Rattle.nl_shown.specs.declared.reverting.RevertError.{RevertError}
+use Rattle.nl_shown.specs.declared.reverting.RevertError.TheVariants as revert
 use Rattle.nl_keep.specs.declared.storing.KeepError.{KeepError}
 use Rattle.nl_keep.specs.declared.storing.KeepError.TheVariants as keep
 use Rattle.nl_keep_pen.specs.Opened.{RefusesToRead}
@@ -9,9 +12,9 @@ use Rattle.nl_backups.specs.declared.pinning.PinWish.{PinWish}
 use Rattle.nl_backups.specs.declared.refusals.Refusal.{Refusal}
 use Rattle.nl_backups.specs.declared.refusals.Refusal.TheVariants as refusal
 use Rattle.nl_backups.specs.Hosts.{Holds, Image}
-use Rattle.nl_backups.specs.Passed.{passed_on}
+use Rattle.nl_backups.specs.Passed.{brought_back, passed_on}
 use Rattle.nl_backups.specs.Readings.{HasLines}
-use Rattle.nl_backups.specs.Refusals.{RefusesAsking, RefusesAt, RefusesChange, RefusesFolder, RefusesLook, RefusesOpened, RefusesPin, RefusesPinning, RefusesPins, RefusesPruning, RefusesToChange, RefusesToKeep}
+use Rattle.nl_backups.specs.Refusals.{CannotComeBack, RefusesAsking, RefusesAt, RefusesChange, RefusesComingBack, RefusesFolder, RefusesLook, RefusesOpened, RefusesPin, RefusesPinning, RefusesPins, RefusesPruning, RefusesToChange, RefusesToKeep}
 use Rattle.nl_backups.proofs.OneWorld.{none_in}
 
 pub keep_refused : (moment : ℕ) (folder : HostTree) (image : Image) (e : KeepError)
@@ -32,6 +35,7 @@ asked_to_prune image (refusal.Volume error) refuses = inl refuses
 asked_to_prune image (refusal.Folder error) refuses = refuses
 asked_to_prune image refusal.Disordered refuses = refuses
 asked_to_prune image refusal.NothingThere refuses = refuses
+asked_to_prune image refusal.NoFolder refuses = refuses
 asked_to_prune image refusal.BadPins refuses = absurd refuses
 asked_to_prune image refusal.NotPinned refuses = refuses
 
@@ -41,6 +45,7 @@ pins_to_prune image (refusal.Volume error) refuses = inl (inr refuses)
 pins_to_prune image (refusal.Folder error) refuses = refuses
 pins_to_prune image refusal.Disordered refuses = refuses
 pins_to_prune image refusal.NothingThere refuses = refuses
+pins_to_prune image refusal.NoFolder refuses = refuses
 pins_to_prune image refusal.BadPins refuses = refuses
 pins_to_prune image refusal.NotPinned refuses = refuses
 
@@ -52,6 +57,7 @@ look_to_change image (refusal.Volume error) refuses = refuses
 look_to_change image (refusal.Folder error) refuses = refuses
 look_to_change image refusal.Disordered refuses = refuses
 look_to_change image refusal.NothingThere refuses = refuses
+look_to_change image refusal.NoFolder refuses = refuses
 look_to_change image refusal.BadPins refuses = absurd refuses
 look_to_change image refusal.NotPinned refuses = absurd refuses
 
@@ -61,6 +67,7 @@ pins_to_change image (refusal.Volume error) refuses = inl (inr refuses)
 pins_to_change image (refusal.Folder error) refuses = refuses
 pins_to_change image refusal.Disordered refuses = absurd refuses
 pins_to_change image refusal.NothingThere refuses = refuses
+pins_to_change image refusal.NoFolder refuses = refuses
 pins_to_change image refusal.BadPins refuses = refuses
 pins_to_change image refusal.NotPinned refuses = absurd refuses
 
@@ -71,6 +78,7 @@ off_to_change image wish lines (refusal.Volume error) has refuses = inl (inr ref
 off_to_change image wish lines (refusal.Folder error) has refuses = refuses
 off_to_change image wish lines refusal.Disordered has refuses = absurd refuses
 off_to_change image wish lines refusal.NothingThere has refuses = refuses
+off_to_change image wish lines refusal.NoFolder has refuses = refuses
 off_to_change image wish lines refusal.BadPins has refuses = absurd refuses
 off_to_change image wish lines refusal.NotPinned has refuses =
     (wish.number, none_in lines image wish.number has refuses)
@@ -82,6 +90,7 @@ change_to_pin moment image (refusal.Volume error) refuses = inl refuses
 change_to_pin moment image (refusal.Folder error) refuses = refuses
 change_to_pin moment image refusal.Disordered refuses = inl refuses
 change_to_pin moment image refusal.NothingThere refuses = refuses
+change_to_pin moment image refusal.NoFolder refuses = refuses
 change_to_pin moment image refusal.BadPins refuses = refuses
 change_to_pin moment image refusal.NotPinned refuses = refuses
 
@@ -92,6 +101,7 @@ asked_to_pin moment image (refusal.Volume error) refuses = inl (inl refuses)
 asked_to_pin moment image (refusal.Folder error) refuses = refuses
 asked_to_pin moment image refusal.Disordered refuses = absurd refuses
 asked_to_pin moment image refusal.NothingThere refuses = refuses
+asked_to_pin moment image refusal.NoFolder refuses = refuses
 asked_to_pin moment image refusal.BadPins refuses = absurd refuses
 asked_to_pin moment image refusal.NotPinned refuses = absurd refuses
 
@@ -99,6 +109,25 @@ pub pin_refused : (moment : ℕ) (image : Image) (e : KeepError) → RefusesPin 
     → RefusesPinning moment image (passed_on e)
 pin_refused moment image (keep.Refused error) refuses = inr refuses
 pin_refused moment image keep.Disordered refuses = inr refuses
+
+-- ---- of `revert`
+
+pub look_to_come_back : (path : Path) (image : Image) (e : Refusal) → RefusesLook image e
+    → RefusesComingBack path image e
+look_to_come_back path image refusal.Host refuses = refuses
+look_to_come_back path image (refusal.Volume error) refuses = refuses
+look_to_come_back path image (refusal.Folder error) refuses = refuses
+look_to_come_back path image refusal.Disordered refuses = refuses
+look_to_come_back path image refusal.NothingThere refuses = absurd refuses
+look_to_come_back path image refusal.NoFolder refuses = absurd refuses
+look_to_come_back path image refusal.BadPins refuses = refuses
+look_to_come_back path image refusal.NotPinned refuses = refuses
+
+pub part_refused : (path : Path) (image : Image) (e : RevertError) → CannotComeBack path image e
+    → RefusesComingBack path image (brought_back e)
+part_refused path image revert.Memory refuses = inl (inr refl)
+part_refused path image revert.NothingThere refuses = refuses
+part_refused path image revert.NoFolder refuses = refuses
 
 -- ---- on the host
 
@@ -114,6 +143,8 @@ of_image Refuses place image given refusal.Disordered holds same refuses =
     (image, holds, subst (λ (x : Image). Refuses x refusal.Disordered) same refuses)
 of_image Refuses place image given refusal.NothingThere holds same refuses =
     (image, holds, subst (λ (x : Image). Refuses x refusal.NothingThere) same refuses)
+of_image Refuses place image given refusal.NoFolder holds same refuses =
+    (image, holds, subst (λ (x : Image). Refuses x refusal.NoFolder) same refuses)
 of_image Refuses place image given refusal.BadPins holds same refuses =
     (image, holds, subst (λ (x : Image). Refuses x refusal.BadPins) same refuses)
 of_image Refuses place image given refusal.NotPinned holds same refuses =

@@ -6,4 +6,5 @@ pub mod Pinning
 pub mod Pruning
 pub mod Readings
 pub mod Refusals
+pub mod Reverting
 pub mod Storing

@@ -13,8 +13,12 @@ use Rattle.nl_manifests.specs.HostTrees.{HostTree}
 use Rattle.nl_manifests.specs.Sealed.{RefusesSealing}
 use Rattle.nl_pins.specs.Pins.{text_in}
 use Rattle.nl_pins.specs.Trees.{without_pins}
+use Rattle.nl_shown.specs.declared.reverting.RevertError.{RevertError}
+use Rattle.nl_shown.specs.declared.reverting.RevertError.TheVariants as revert
 use Rattle.nl_shown.specs.Kept.{KeepsFolder}
+use Rattle.nl_shown.specs.Lost.{coming_back}
 use Rattle.nl_shown.specs.Parts.{part_of}
+use Rattle.nl_shown.specs.Reverted.{RefusesRevert}
 use Rattle.nl_keep.specs.declared.storing.KeepError.{KeepError}
 use Rattle.nl_keep.specs.declared.storing.KeepError.TheVariants as keep
 use Rattle.nl_keep_pen.specs.Images.{ImageMeans}
@@ -27,6 +31,7 @@ use Rattle.nl_backups.specs.Commands.{ShowsFromImage}
 use Rattle.nl_backups.specs.Hosts.{Holds, Image}
 use Rattle.nl_backups.specs.Pinning.{IsWanted}
 use Rattle.nl_backups.specs.Readings.{HasBadPins, pinned_in}
+use Rattle.nl_backups.specs.Reverting.{BothShow, ComesBack}
 
 -- ---- of an image
 
@@ -109,6 +114,30 @@ abbrev pub RefusesPins : Image → Refusal → Type 0
 RefusesPins image refusal.BadPins = HasBadPins image
 RefusesPins image (refusal.Volume e) = e ≡ Memory
 RefusesPins image _ = ⊥
+
+-- what checkpoint n shows at and below the path has no way into the current tree
+pub record CannotComeBack (path : Path) (image : Image) (e : RevertError) : Type 0 where
+  pub n : ℕ
+  pub earlier : HostTree
+  pub later : HostTree
+  pub both : BothShow n earlier later image
+  pub refuses : RefusesRevert later (coming_back later path earlier) path e
+
+-- a checkpoint or the current tree isn't read, or nothing is there, or no folder is above
+abbrev pub RefusesComingBack : Path → Image → Refusal → Type 0
+RefusesComingBack path image refusal.NothingThere = CannotComeBack path image revert.NothingThere
+RefusesComingBack path image refusal.NoFolder = CannotComeBack path image revert.NoFolder
+RefusesComingBack path image e = RefusesLook image e
+
+-- the tree that is wanted isn't stored
+pub record RefusesWanted (moment : ℕ) (path : Path) (image : Image) (e : Refusal) : Type 0 where
+  pub n : ℕ
+  pub wanted : HostTree
+  pub comes : ComesBack n path wanted image
+  pub refuses : RefusesFolder moment wanted image e
+
+abbrev pub RefusesReverting : (moment : ℕ) → Path → Image → Refusal → Type 0
+RefusesReverting moment path image e = RefusesComingBack path image e ⊎ RefusesWanted moment path image e
 
 -- some checkpoints aren't forgotten, or the file of pins is none
 abbrev pub RefusesPruning : Image → Refusal → Type 0

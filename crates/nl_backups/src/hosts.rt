@@ -6,7 +6,7 @@ ghost use Rattle.nl_backups.specs.Hosts.{Holds, Image, IsPut};
 
 use nl_folders::Path;
 use nl_keep_pen::OpenedVolume;
-use nl_manifests::{HostTree, Opened};
+use nl_manifests::{HostTree, LineFault, Opened};
 use nl_types::{Items, Object, Row};
 use std::alloc::Global;
 
@@ -69,6 +69,16 @@ pub trait Listener<N> {
 
     /// No effort made room in the volume of an image for a tree.
     fn full(&mut self, image: &[u8], wanted: &[(Path, Object)]);
+}
+
+/// Who is shown the two trees that a revert makes one of.
+pub trait Reviewer {
+    /// What a checkpoint shows of which a part is to come back, and what the current tree shows. Nothing is done
+    /// yet.
+    fn look(&mut self, earlier: &Opened, later: &Opened);
+
+    /// A tree is made of them, and is stored next. These lines of their manifests show nothing.
+    fn drop_lines(&mut self, earlier: &[(Path, LineFault)], later: &[(Path, LineFault)]);
 }
 
 /// Puts an image in its place, where there is another one.

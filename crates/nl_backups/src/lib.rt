@@ -14,15 +14,17 @@ mod pruning;
 mod reading;
 mod refusals;
 mod restoring;
+mod reverting;
 mod storing;
 
 pub use backing_up::backup;
 pub use forgetting::{Forgotten, forget};
-pub use hosts::{Asker, HostFault, Listener, Place, Source, Target};
+pub use hosts::{Asker, HostFault, Listener, Place, Reviewer, Source, Target};
 pub use making::init;
 pub use memory::{GivenFolder, LaidOut, MemoryPlace, Nobody, there_and_back};
 pub use pinning::{PinChange, PinWish, Pinned, pin};
 pub use pruning::{Pruned, prune, prune_image};
 pub use refusals::Refusal;
 pub use restoring::restore;
+pub use reverting::{Reverted, revert};
 pub use storing::{BackedUp, Terms, store_in};

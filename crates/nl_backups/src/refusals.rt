@@ -2,6 +2,7 @@
 use crate::hosts::HostFault;
 use nl_keep::KeepError;
 use nl_manifests::SealError;
+use nl_shown::RevertError;
 use nl_types::VolError;
 use std::alloc::AllocError;
 
@@ -18,6 +19,8 @@ pub enum Refusal {
     Disordered,
     /// Nothing is there at the path.
     NothingThere,
+    /// A file or a link stands above the path now, where a folder has to be.
+    NoFolder,
     /// The file of pins is none.
     BadPins,
     /// The checkpoint isn't pinned.
@@ -79,6 +82,21 @@ impl From<KeepError> for Refusal {
         match error {
             KeepError::Refused(error) => Refusal::Volume(error),
             KeepError::Disordered => Refusal::Disordered,
+        }
+    }
+}
+
+impl From<RevertError> for Refusal {
+    ghost use Rattle.std.specs.Prelude.{◌≡◌};
+    ghost use Rattle.nl_backups.specs.Passed.{brought_back};
+
+    ghost from_gives = { λ error e. e ≡ brought_back error };
+
+    fn from(error: RevertError) -> Refusal {
+        match error {
+            RevertError::Memory => Refusal::Volume(VolError::Memory),
+            RevertError::NothingThere => Refusal::NothingThere,
+            RevertError::NoFolder => Refusal::NoFolder,
         }
     }
 }

@@ -7,10 +7,11 @@ ghost use Rattle.nl_backups.specs.Refusals.{LacksPart, RefusesAt, RefusesLook, R
 
 use crate::asking::opened_for;
 use crate::hosts::{Asker, Place, Target};
+use crate::reading::shown_by;
 use crate::refusals::Refusal;
 use nl_manifests::{HostTree, Opened};
 use nl_names::Name;
-use nl_shown::{part_at, shown_tree};
+use nl_shown::part_at;
 use nl_types::CheckpointNumber;
 use std::alloc::Global;
 
@@ -25,8 +26,7 @@ fn shown_of<A: Asker<CheckpointNumber>>(
     ensures refused { IfErr result (RefusesLook image.now) }
 {
     let (volume, number) = opened_for(alloc, image, asker)?;
-    let tree = volume.tree(alloc, number)?;
-    let opened = shown_tree(alloc, tree)?;
+    let opened = shown_by(alloc, &volume, number)?;
     Ok((number, opened))
 }
 
