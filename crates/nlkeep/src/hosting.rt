@@ -105,6 +105,7 @@ pub fn refusal_fault(alloc: Global, path: &str, known: Option<Fault>, refusal: R
         Refusal::Folder(error) => seal_fault(alloc, path, error, DISORDERED),
         Refusal::Disordered => fault_at(alloc, path, DISORDERED),
         Refusal::NothingThere => fault_at(alloc, path, "nothing is there"),
+        Refusal::NoFolder => fault_at(alloc, path, "lies below what is no folder now"),
         Refusal::BadPins => fault_at(alloc, path, "has a file .nlkeep-pins that is none of pins"),
         Refusal::NotPinned => fault_at(alloc, path, "is not pinned"),
         // Memory for its reason lacked.

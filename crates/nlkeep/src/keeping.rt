@@ -82,19 +82,19 @@ impl Source for GivenSource<'_, '_, '_> {
 
 /// Who is told of what is kept.
 #[derive(Drop)]
-struct Follower<'r, 'c, 'z, 'w> {
-    rt: &'r HostRuntime,
-    clock: &'c Clock<'z>,
+pub struct Follower<'r, 'c, 'z, 'w> {
+    pub rt: &'r HostRuntime,
+    pub clock: &'c Clock<'z>,
     keeping: Keeping<'w>,
-    progress: Progress<'r>,
+    pub progress: Progress<'r>,
     is_terminal: bool,
     /// What is told once the image is saved.
-    news: Option<News>,
-    fault: Option<Fault>,
+    pub news: Option<News>,
+    pub fault: Option<Fault>,
 }
 
 impl<'r, 'c, 'z, 'w> Follower<'r, 'c, 'z, 'w> {
-    fn new(
+    pub fn new(
         rt: &'r HostRuntime,
         matches: &ArgMatches<'_>,
         clock: &'c Clock<'z>,
@@ -112,7 +112,8 @@ impl<'r, 'c, 'z, 'w> Follower<'r, 'c, 'z, 'w> {
         }
     }
 
-    fn tell_dates(&self, rows: &[Row]) -> Result<(), Fault> {
+    /// Tells that the latest checkpoint is later than the clock, or than the moment that is asked for.
+    pub fn tell_dates(&self, rows: &[Row]) -> Result<(), Fault> {
         let Keeping { path, moment, .. } = self.keeping;
         tell_late(self.rt, path, rows, self.clock)?;
         tell_earlier(self.rt, path, rows, self.clock, moment, Made::Checkpoint)

@@ -1,103 +1,101 @@
 //! `revert`: a file or a folder of a checkpoint comes back into the current tree.
 use crate::asking::{Clock, Outcome, word};
+use crate::checkpoints::kept_number;
 use crate::faults::{Fault, fault_at};
-use crate::images::take_place;
+use crate::hosting::LockedImage;
+use crate::keeping::Follower;
 use crate::manifests::tell_bad_manifests;
 use crate::parts::path_said;
 use crate::printing::{Printer, tell_refused};
-use crate::progress::Progress;
-use crate::storing::{Gathered, Keeping};
-use crate::unpacking::sealed;
-use crate::views::View;
+use crate::storing::Keeping;
+use crate::telling::tell_news;
+use crate::unpacking::seal_fault;
 use clap::ArgMatches;
-use nl_folders::Tree;
-use nl_manifests::{HostTree, Opened, open};
+use nl_backups::{Asker, BackedUp, HostFault, Listener, Refusal, Reviewer};
+use nl_folders::Path;
+use nl_keep_pen::OpenedVolume;
+use nl_manifests::{LineFault, Opened};
 use nl_names::Name;
-use nl_saving::SavePlace;
-use nl_shown::{RevertError, reverted, with_lost};
-use std::alloc::Global;
+use nl_types::{CheckpointNumber, Object, Row};
 use std::io::Write;
 
-fn revert_fault(alloc: Global, word: &str, error: RevertError) -> Fault {
-    match error {
-        RevertError::Memory => Fault::Memory,
-        RevertError::NothingThere => fault_at(alloc, word, "nothing is there"),
-        RevertError::NoFolder => fault_at(alloc, word, "lies below what is no folder now"),
+/// Who brings something back.
+#[derive(Drop)]
+struct Reverter<'r, 'c, 'z, 'w, 't> {
+    follower: Follower<'r, 'c, 'z, 'w>,
+    /// Of which checkpoint.
+    checkpoint: &'w str,
+    /// The path at and below which it comes back.
+    top: &'t [Name],
+    /// Whether nothing was left out of both trees.
+    is_whole: bool,
+}
+
+impl Reverter<'_, '_, '_, '_, '_> {
+    /// The number of the checkpoint. Odd dates are told first.
+    fn number_said(&self, rows: &[Row]) -> Result<CheckpointNumber, Fault> {
+        self.follower.tell_dates(rows)?;
+        let alloc = self.follower.rt.alloc();
+        kept_number(alloc, self.checkpoint, rows, self.follower.clock)
+    }
+
+    /// Notes whether something is left out.
+    fn note(&mut self, are_good: bool) {
+        self.is_whole = self.is_whole && are_good;
     }
 }
 
-/// The tree of the volume, in which what a word says stands as in the earlier one.
-fn tree_with(
-    alloc: Global,
-    word: &str,
-    top: &[Name],
-    later: HostTree,
-    earlier: HostTree,
-) -> Result<Tree, Fault> {
-    match reverted(alloc, later, earlier, top) {
-        Ok(tree) => sealed(alloc, word, tree.as_slice(), "a file .nlkeep is in the way"),
-        Err(error) => Err(revert_fault(alloc, word, error)),
+impl Asker<CheckpointNumber> for Reverter<'_, '_, '_, '_, '_> {
+    fn asked(&mut self, _: &OpenedVolume, rows: &[Row]) -> Result<CheckpointNumber, HostFault> {
+        match self.number_said(rows) {
+            Ok(number) => Ok(number),
+            Err(fault) => {
+                self.follower.fault = Some(fault);
+                Err(HostFault)
+            }
+        }
     }
 }
 
-/// What the latest checkpoint shows.
-fn opened_latest(alloc: Global, view: &View<'_>) -> Result<Opened, Fault> {
-    let tree = view.present_tree(alloc)?;
-    Ok(open(alloc, tree.as_slice())?)
+impl Reviewer for Reverter<'_, '_, '_, '_, '_> {
+    fn look(&mut self, earlier: &Opened, later: &Opened) {
+        let rt = self.follower.rt;
+        self.note(tell_bad_manifests(rt, earlier.tree.as_slice(), self.top, None));
+        self.note(tell_bad_manifests(rt, later.tree.as_slice(), &[], None));
+    }
+
+    fn drop_lines(&mut self, earlier: &[(Path, LineFault)], later: &[(Path, LineFault)]) {
+        let rt = self.follower.rt;
+        self.note(tell_refused(rt, earlier, self.top));
+        self.note(tell_refused(rt, later, &[]));
+        self.follower.progress.tell("storing");
+    }
 }
 
-/// The later of two trees, in which what a word says stands as in the earlier one. Lines of manifests that
-/// show nothing are told. Where a manifest is none, nothing that comes back is anybody's who could not read
-/// it.
-fn gathered_of(
-    rt: &HostRuntime,
-    word: &str,
-    later: Opened,
-    earlier: Opened,
-) -> Result<Gathered, Fault> {
-    let alloc = rt.alloc();
-    let top = path_said(alloc, word)?;
-    let are_good = tell_bad_manifests(rt, earlier.tree.as_slice(), top.as_slice(), None);
-    let are_rest_good = tell_bad_manifests(rt, later.tree.as_slice(), &[], None);
-    let earlier_tree = if are_good {
-        earlier.tree
-    } else {
-        with_lost(alloc, earlier.tree, later.tree.as_slice(), top.as_slice())?
-    };
-    let tree = tree_with(alloc, word, top.as_slice(), later.tree, earlier_tree)?;
-    let is_part_whole = tell_refused(rt, earlier.refused.as_slice(), top.as_slice()) && are_good;
-    let is_rest_whole = tell_refused(rt, later.refused.as_slice(), &[]) && are_rest_good;
-    Ok(Gathered {
-        tree,
-        is_whole: is_part_whole && is_rest_whole,
-    })
+impl Listener<BackedUp> for Reverter<'_, '_, '_, '_, '_> {
+    fn done(&mut self, news: &BackedUp) -> Result<(), HostFault> {
+        self.follower.done(news)
+    }
+
+    fn full(&mut self, image: &[u8], wanted: &[(Path, Object)]) {
+        self.follower.full(image, wanted);
+    }
 }
 
-/// The same of the latest checkpoint and the one that is asked for.
-fn gathered(
-    rt: &HostRuntime,
-    matches: &ArgMatches<'_>,
-    clock: &Clock<'_>,
-    view: &View<'_>,
-) -> Result<Gathered, Fault> {
-    let alloc = rt.alloc();
-    let earlier = view.opened(alloc, word(matches, "CNO"), clock)?;
-    let later = opened_latest(alloc, view)?;
-    gathered_of(rt, word(matches, "PATH"), later, earlier)
-}
-
-fn revert_into<W: Write>(
-    rt: &HostRuntime,
-    matches: &ArgMatches<'_>,
-    clock: &Clock<'_>,
-    place: &mut SavePlace<'_>,
-    printer: &mut Printer<W>,
-) -> Result<Outcome, Fault> {
-    let keeping = Keeping::said(rt, matches, clock)?;
-    let mut progress = Progress::begin(rt, matches);
-    let held = keeping.held(rt, clock)?;
-    let gathered = gathered(rt, matches, clock, &held.view)?;
-    keeping.keep_gathered(rt, held, gathered, &mut progress, place, printer)
+/// Why nothing comes back. `path` is the word that says where.
+fn revert_fault(
+    path: &str,
+    refusal: Refusal,
+    follower: &mut Follower<'_, '_, '_, '_>,
+    image: &mut LockedImage<'_, '_>,
+) -> Fault {
+    let alloc = follower.rt.alloc();
+    match refusal {
+        Refusal::NothingThere => fault_at(alloc, path, "nothing is there"),
+        Refusal::NoFolder => fault_at(alloc, path, "lies below what is no folder now"),
+        Refusal::Folder(error) => { seal_fault(alloc, path, error, "a file .nlkeep is in the way") }
+        refusal => image.fault_of(follower.fault.take(), refusal),
+    }
 }
 
 /// Keeps the current tree as the next snapshot, in which a file or a folder stands as a checkpoint has it.
@@ -107,6 +105,36 @@ pub fn revert<W: Write>(
     clock: &Clock<'_>,
     printer: &mut Printer<W>,
 ) -> Result<Outcome, Fault> {
-    let mut place = take_place(rt, word(matches, "IMAGE"))?;
-    revert_into(rt, matches, clock, &mut place, printer)
+    let (alloc, path) = (rt.alloc(), word(matches, "PATH"));
+    let mut image = LockedImage::take(rt, word(matches, "IMAGE"))?;
+    let keeping = Keeping::said(rt, matches, clock)?;
+    let top = path_said(alloc, path)?;
+    let mut reverter = Reverter {
+        follower: Follower::new(rt, matches, clock, keeping, printer.is_terminal),
+        checkpoint: word(matches, "CNO"),
+        top: top.as_slice(),
+        is_whole: true,
+    };
+    let done = nl_backups::revert(
+        alloc,
+        &mut image,
+        &mut reverter,
+        top.as_slice(),
+        keeping.terms(),
+    );
+    let Reverter {
+        mut follower,
+        is_whole,
+        ..
+    } = reverter;
+    if done.is_err() || !printer.is_terminal {
+        follower.progress.end();
+    }
+    match done {
+        Ok(_) => {
+            tell_news(follower.news.take(), printer)?;
+            Ok(image.outcome.and(Outcome::of(is_whole)))
+        }
+        Err(refusal) => Err(revert_fault(path, refusal, &mut follower, &mut image)),
+    }
 }

@@ -1,21 +1,17 @@
 //! A tree that becomes the current one of an image, and is kept as the next snapshot.
-use crate::asking::{Clock, Outcome, moment, most, word};
+use crate::asking::{Clock, moment, most, word};
 use crate::comparing::tell_differences;
 use crate::faults::{Fault, fault_at, volume_fault};
 use crate::fullness::full_fault;
-use crate::images::read_image;
 use crate::printing::{Printer, last_line};
 use crate::progress::Progress;
 use crate::sizes::Size;
 use crate::telling::{News, done_as};
-use crate::views::{Made, View};
 use clap::ArgMatches;
 use nl_backups::Terms;
 use nl_folders::{Path, Tree};
 use nl_keep::{KeepError, Stored};
 use nl_keep_pen::OpenedVolume;
-use nl_pins::with_pins;
-use nl_saving::SavePlace;
 use nl_types::{Object, VolError};
 use std::alloc::Global;
 use std::io::{self, Write};
@@ -137,21 +133,6 @@ pub struct Keeping<'a> {
     pub is_quiet: bool,
 }
 
-/// An image, and its volume.
-#[derive(Drop)]
-pub struct Held<'a> {
-    pub image: Vec<u8>,
-    pub view: View<'a>,
-}
-
-/// A tree that is to be kept beside the pins of a volume.
-#[derive(Drop)]
-pub struct Gathered {
-    pub tree: Tree,
-    /// Whether nothing was left out of it.
-    pub is_whole: bool,
-}
-
 /// Puts what takes away what is told of the work at a terminal before a text.
 fn behind_progress(alloc: Global, text: &[u8]) -> io::Result<Vec<u8>> {
     let mut whole = Vec::with_capacity(alloc, text.len())?;
@@ -181,28 +162,6 @@ impl<'a> Keeping<'a> {
         }
     }
 
-    pub fn wanted(&self, tree: Tree) -> Wanted {
-        Wanted {
-            tree,
-            moment: self.moment,
-            most: self.most,
-        }
-    }
-
-    /// The image, and its volume, which is opened. A late date is told.
-    pub fn held(&self, rt: &HostRuntime, clock: &Clock<'_>) -> Result<Held<'a>, Fault> {
-        let image = read_image(rt, self.path)?;
-        let view = View::of(rt, self.path, image.as_slice(), clock)?;
-        view.tell_earlier(rt, clock, self.moment, Made::Checkpoint)?;
-        Ok(Held { image, view })
-    }
-
-    /// A tree that has no pins, beside those of the volume.
-    fn beside_pins(&self, alloc: Global, view: &View<'_>, tree: Tree) -> Result<Wanted, Fault> {
-        let pins = view.pins_file(alloc)?;
-        Ok(self.wanted(with_pins(alloc, pins, tree)?))
-    }
-
     /// What is told of a tree that is stored, as far as a person wants to know. At a terminal it takes the
     /// place of what is told of the work.
     pub fn told_of(
@@ -223,70 +182,5 @@ impl<'a> Keeping<'a> {
             text
         };
         Ok(News { text, done })
-    }
-
-    /// Stores a tree in the volume of an image, and saves that. What was done is told once the image is
-    /// there.
-    fn store<W: Write>(
-        &self,
-        rt: &HostRuntime,
-        held: Held<'_>,
-        wanted: &Wanted,
-        progress: &mut Progress<'_>,
-        place: &mut SavePlace<'_>,
-        printer: &mut Printer<W>,
-    ) -> Result<Outcome, Fault> {
-        let (alloc, tree) = (rt.alloc(), wanted.tree.as_slice());
-        let Held { image, view } = held;
-        let stores = store_in(
-            alloc,
-            self.path,
-            image.as_slice(),
-            view.into_volume(),
-            wanted,
-        )?;
-        progress.tell("digesting and saving");
-        let Stores {
-            stored,
-            image,
-            grown,
-        } = stores;
-        let is_terminal = printer.is_terminal;
-        let news = self.told_of(alloc, &stored, grown, tree, progress, is_terminal)?;
-        news.save(rt, self.path, place, image.as_slice(), printer)
-    }
-
-    /// Stores a tree that has no pins, beside those of the volume, and saves the image. Answers whether its
-    /// sum was left out.
-    fn keep<W: Write>(
-        &self,
-        rt: &HostRuntime,
-        held: Held<'_>,
-        tree: Tree,
-        progress: &mut Progress<'_>,
-        place: &mut SavePlace<'_>,
-        printer: &mut Printer<W>,
-    ) -> Result<Outcome, Fault> {
-        let wanted = self.beside_pins(rt.alloc(), &held.view, tree)?;
-        progress.tell("storing");
-        self.store(rt, held, &wanted, progress, place, printer)
-    }
-
-    /// The same of a tree of which something may be left out, with what is told of the work.
-    pub fn keep_gathered<W: Write>(
-        &self,
-        rt: &HostRuntime,
-        held: Held<'_>,
-        gathered: Gathered,
-        progress: &mut Progress<'_>,
-        place: &mut SavePlace<'_>,
-        printer: &mut Printer<W>,
-    ) -> Result<Outcome, Fault> {
-        let Gathered { tree, is_whole } = gathered;
-        let kept = self.keep(rt, held, tree, progress, place, printer);
-        if kept.is_err() || !printer.is_terminal {
-            progress.end();
-        }
-        Ok(kept?.and(Outcome::of(is_whole)))
     }
 }

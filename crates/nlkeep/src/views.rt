@@ -138,24 +138,8 @@ impl<'a> View<'a> {
         tell_late(rt, self.path, self.rows.as_slice(), clock)
     }
 
-    /// The same where it is later than the moment that is asked for.
-    pub fn tell_earlier(
-        &self,
-        rt: &HostRuntime,
-        clock: &Clock<'_>,
-        moment: u64,
-        made: Made,
-    ) -> Result<(), Fault> {
-        tell_earlier(rt, self.path, self.rows.as_slice(), clock, moment, made)
-    }
-
     pub fn volume(&self) -> &PenVolume<MemDevice> {
         self.volume.volume()
-    }
-
-    /// The volume itself, of which nothing more is looked at.
-    pub fn into_volume(self) -> OpenedVolume {
-        self.volume
     }
 
     pub fn pen(&self) -> &Pen<MemDevice> {
