@@ -1,14 +1,17 @@
 //! A tree laid out in a folder of the host.
-ghost use Rattle.std.specs.Prelude.{◌≡◌, ◌+◌, ◌==◌, ◌<◌, ◌++◌, OnOk, length, map, not, string_bytes};
+ghost use Rattle.std.specs.Prelude.{◌≡◌, ◌+◌, ◌==◌, ◌<◌, ◌++◌, [], IsTrue, OnOk, length, map, not, string_bytes, vec_len};
 ghost use Rattle.std.specs.List.{flat_map};
 ghost use Rattle.std.specs.Str.{is_utf8};
 ghost use Rattle.nl_host.specs.HostPaths.{all_left_out, link_left_out, object_left_out, target_left_out, told_if, told_of};
+ghost use Rattle.nl_host.specs.Puts.{AsksAll, AsksOnly, is_walk};
 ghost use Rattle.nl_host.specs.declared.left_out.Reason.TheVariants.{NameNoText, TargetNoText};
 
 use crate::host_paths::{host_path, text_of};
+use crate::laying::Laying;
 use crate::left_out::{LeftOut, Reason};
-use crate::putting::{Manner, Putting};
+use crate::putting::Putting;
 use crate::refusals::Laid;
+use crate::system_folder::{Manner, SystemFolder};
 use nl_folders::Path;
 use nl_manifests::{HostEntry, HostObject};
 use nl_names::Name;
@@ -159,7 +162,35 @@ fn note_links(
 
 // ---- all of it
 
-/// Makes what may stand on the host, and sets its attributes, also where that ends amid.
+/// Lays a tree out in the folder of a host in which we stand: makes what may stand there, and sets its
+/// attributes, also where that ends amid. The tree's root is that folder, and `folder` the path that is told of it.
+///
+/// The tree may hold anything. It is in order if each entry stands in the folder of the one before it or in one
+/// above that, as in any tree that is sorted and has the folders of all its paths.
+///
+/// # Errors
+/// Those by which the host would refuse each further file. What it refuses of one entry alone is noted by
+/// `laid`, and nothing below that is tried.
+pub fn lay_below<L: Laying>(
+    alloc: Global,
+    site: &mut L,
+    folder: &str,
+    entries: &[(Path, HostEntry)],
+    laid: &mut Laid,
+) -> io::Result<()>
+    requires { L.trail site.old ≡ [] }
+    ensures only { AsksOnly entries.now (L.asked site.old) (L.asked site.new) }
+    ensures all { OnOk result (vec_len laid.new.refused ≡ vec_len laid.old.refused
+        → IsTrue (is_walk [] entries.now) → AsksAll entries.now (L.asked site.old) (L.asked site.new)) }
+{
+    let mut putting = Putting::new(alloc, folder, entries);
+    let put = putting.lay_all(site, laid);
+    let left = putting.leave_all(site, laid);
+    put?;
+    left
+}
+
+/// Makes in a folder of the system what may stand there.
 fn put_all<R: AllocGlobal + Files<File = File> + Env>(
     rt: &R,
     folder: &str,
@@ -169,12 +200,10 @@ fn put_all<R: AllocGlobal + Files<File = File> + Env>(
 ) -> io::Result<()> {
     // A link to the folder itself is followed.
     let root = format!(in rt.alloc(); "{folder}/.")?;
-    let mut putting = Putting::new(rt, root.as_str(), folder, manner)?;
-    let put = putting.lay_all(entries, laid);
-    let left = putting.leave_all(laid);
-    let closed = putting.close();
+    let mut site = SystemFolder::at(rt, root.as_str(), manner)?;
+    let put = lay_below(rt.alloc(), &mut site, folder, entries, laid);
+    let closed = site.close();
     put?;
-    left?;
     closed
 }
 

@@ -121,7 +121,9 @@ impl<'a, R: AllocGlobal + Files<File = File> + Env> OpenFolders<'a, R> {
     ///
     /// # Errors
     /// Those of the system, such as for a folder that can't be read.
-    pub(crate) fn at(files: &'a R, root: &'a str) -> io::Result<OpenFolders<'a, R>> {
+    pub(crate) fn at(files: &'a R, root: &'a str) -> io::Result<OpenFolders<'a, R>>
+        ensures { IfOk result (λ folders. names folders.trail ≡ []) }
+    {
         let first = Opened::at(files, root)?;
         let trail = Trail {
             root,
