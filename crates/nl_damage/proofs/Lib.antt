@@ -5,5 +5,8 @@ pub mod JudgedTables
 pub mod OwnLogs
 pub mod SumLoops
 pub mod SumsAgain
+pub mod LatestRead
 pub mod SumsRead
+pub mod SumsOfImages
+pub mod SumsBeside
 pub mod SoundCheckpoints

@@ -4,9 +4,11 @@ use Rattle.std.specs.List.{range_with_len}
 use Rattle.hex.specs.Hex.{encode_lower}
 use Rattle.sha2.specs.Sha256.{sha256}
 use Rattle.nl_types.specs.declared.geometry.Geometry.{Geometry}
+use Rattle.nl_damage.specs.declared.sections.Sections.{Sections}
 use Rattle.nl_damage.specs.declared.sums.digests.Digest.{Digest}
 use Rattle.nl_damage.specs.declared.sums.sum.Kept.{Kept}
 use Rattle.nl_damage.specs.declared.sums.sum.Sum.{Sum}
+use Rattle.nl_damage.specs.Sections.{AreImageSections, IsLatest}
 
 -- the SHA-256 digest, as its digits spell it
 abbrev pub digest_of : List ℕ → Digest
@@ -35,3 +37,18 @@ pub record IsSumOf (image : List ℕ) (g : Geometry) (kept : Kept) (sum : Sum) :
   pub whole : sum.whole ≡ digest_of image
   pub segments : sum.segments
       ≡ map (digest_of_segment image (front_of image g) (1024 * g.blocks)) (range_with_len 0 g.segments)
+
+-- ---- by the image alone
+
+-- how many checkpoints its table tells, and which is the latest
+pub record IsKeptIn (x : Sections) (kept : Kept) : Type 0 where
+  pub count : kept.count ≡ x.superblock.checkpoints
+  pub latest : IsLatest x kept.latest
+
+-- the sum of bytes that meet the first three conditions of an image, by what their own tables tell
+pub record IsImageSum (image : List ℕ) (sum : Sum) : Type 0 where
+  pub sections : Sections
+  pub are : AreImageSections image sections
+  pub kept : Kept
+  pub is_kept : IsKeptIn sections kept
+  pub sum_is : IsSumOf image sections.geometry kept sum

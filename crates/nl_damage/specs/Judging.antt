@@ -15,7 +15,7 @@ use Rattle.nl_check.specs.Judging.{told}
 use Rattle.nl_check.specs.Verdicts.{IsVerdict}
 use Rattle.nl_check.specs.ImageConditions.{number_of}
 use Rattle.nl_check.specs.declared.conditions.ImageCondition.TheVariants as condition
-use Rattle.nl_image.specs.Conditions.{number_of_last}
+use Rattle.nl_image.specs.Conditions.{MeetsFirst, number_of_last}
 use Rattle.nl_image.specs.Parts.{Parts}
 use Rattle.nl_image.specs.Reading.{HaveOwn}
 use Rattle.nl_damage.specs.declared.later.Finding.{Finding}
@@ -26,7 +26,7 @@ use Rattle.nl_damage.specs.declared.places.Place.{Place}
 use Rattle.nl_damage.specs.declared.sections.Sections.{Sections}
 use Rattle.nl_damage.specs.declared.tables.Tables.{Tables}
 use Rattle.nl_damage.specs.Pages.{ArePagesOf, pages_of, periods_of}
-use Rattle.nl_damage.specs.Sections.{AreSections}
+use Rattle.nl_damage.specs.Sections.{AreSections, HasTooMany}
 
 -- ---- what the sections hold, each by the condition that asks for it
 
@@ -139,3 +139,7 @@ pub record AreJudgedBytes (bytes : List ℕ) (p : Parts) (j : Judged) : Type 0 w
   pub are : AreSections bytes sections
   pub shape : sections.superblock ≡ p.shape
   pub judged : IsJudged sections j
+
+-- So are bytes judged: of others than these, and of those that tell too many checkpoints, nothing is said.
+abbrev pub IsJudgedOf : List ℕ → Judged → Type 0
+IsJudgedOf bytes j = (p : Parts) → MeetsFirst 3 bytes p → (HasTooMany p.shape → ⊥) → AreJudgedBytes bytes p j

@@ -1,8 +1,11 @@
 -- The pages and periods that the table of an image gives virtual block numbers, sound or not.
-use Rattle.std.specs.Prelude.{◌≡◌, ℕ, zero, suc, ◌+◌, ◌≤◌, List, drop, length, slice_index_or, Option, None, Some}
+use Rattle.std.specs.Prelude.{◌≡◌, ◌⊎◌, ℕ, zero, suc, ◌+◌, ◌*◌, ◌<◌, ◌≤◌, List, drop, length, slice_index_or, Option, None, Some}
 use Rattle.std.specs.Option.{option_and_then, option_map}
 use Rattle.byteorder.specs.Endian.{little_number}
 use Rattle.nl_types.specs.Blocks.Roots.{Pages}
+use Rattle.nl_types.specs.declared.error.VolError.{VolError}
+use Rattle.nl_types.specs.declared.error.VolError.TheVariants.{Fault, Memory}
+use Rattle.nl_types.specs.declared.geometry.Geometry.{Geometry}
 use Rattle.nl_types.specs.declared.period.Period.{Period}
 use Rattle.nl_vstore.specs.Periods.{Periods}
 use Rattle.nl_dat.specs.EntryBytes.{end_at}
@@ -51,3 +54,12 @@ pages_of p v = option_map (λ (n : Numbered). n.page) (numbered_at p v)
 
 abbrev pub periods_of : ImagePages → Periods
 periods_of p v = option_map (λ (n : Numbered). n.period) (numbered_at p v)
+
+-- ---- refusals
+
+-- there are more numbers than a volume so divided has blocks
+abbrev pub HaveMoreNumbers : ImagePages → Geometry → Type 0
+HaveMoreNumbers p g = g.segments * g.blocks + 1 < length p.table
+
+abbrev pub RefusesPages : ImagePages → Geometry → VolError → Type 0
+RefusesPages p g e = (e ≡ Memory) ⊎ ((e ≡ Fault) × HaveMoreNumbers p g)

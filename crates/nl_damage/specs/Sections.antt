@@ -6,8 +6,8 @@ use Rattle.nl_layout.specs.declared.superblock.Superblock.{Superblock}
 use Rattle.nl_layout.specs.declared.superblock.Mark.TheVariants.{Second}
 use Rattle.nl_layout.specs.Checkpoints.{Spells}
 use Rattle.nl_layout.specs.Superblock.{superblock_at}
-use Rattle.nl_image.specs.Conditions.{IsShapeOf}
-use Rattle.nl_image.specs.Parts.{blocks_in, blocks_start, cpfile_in, cpfile_start, dat_in, dat_start, image_length, padding_in, padding_start, sufile_in}
+use Rattle.nl_image.specs.Conditions.{IsShapeOf, MeetsFirst}
+use Rattle.nl_image.specs.Parts.{Parts, blocks_in, blocks_start, cpfile_in, cpfile_start, dat_in, dat_start, image_length, padding_in, padding_start, sufile_in}
 use Rattle.nl_damage.specs.declared.sections.Places.{Places}
 use Rattle.nl_damage.specs.declared.sections.Sections.{Sections}
 
@@ -55,6 +55,11 @@ pub record IsEntryAt (x : Sections) (place : ℕ) (entry : CheckpointEntry) : Ty
 abbrev pub last_place : Sections → ℕ
 last_place x = length x.checkpoints.now / 160 - 1
 
+-- the number of the last entry, 0 where that can't be read
+pub record IsLatest (x : Sections) (n : ℕ) : Type 0 where
+  pub read : (entry : CheckpointEntry) → IsEntryAt x (last_place x) entry → n ≡ entry.number
+  pub unread : ((entry : CheckpointEntry) → IsEntryAt x (last_place x) entry → ⊥) → n ≡ 0
+
 -- what the counts of a first block tell, whatever mark it has and whatever stands behind them
 abbrev pub mended_superblock : List ℕ → Superblock
 mended_superblock bytes = record (superblock_at bytes) { mark = Second }
@@ -62,6 +67,12 @@ mended_superblock bytes = record (superblock_at bytes) { mark = Second }
 -- a superblock tells more checkpoints than a list of bytes can have entries
 abbrev pub HasTooMany : Superblock → Type 0
 HasTooMany s = 2 ^ 56 ≤ s.checkpoints
+
+-- the sections of bytes that meet the first three conditions of an image
+pub record AreImageSections (bytes : List ℕ) (x : Sections) : Type 0 where
+  pub are : AreSections bytes x
+  pub meets : (p : Parts) × MeetsFirst 3 bytes p × (p.shape ≡ x.superblock)
+  pub few : HasTooMany x.superblock → ⊥
 
 -- the counts of a first block are there, and divide a volume
 pub record CountsDivide (bytes : List ℕ) : Type 0 where

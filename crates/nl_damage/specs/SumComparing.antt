@@ -1,5 +1,5 @@
 -- What an image is beside a sum that was saved.
-use Rattle.std.specs.Prelude.{ℕ, Bool, ◌&&◌, ◌==◌, not, if◌then◌else◌, List, [], filter, length, Option, None, Some, slice_get}
+use Rattle.std.specs.Prelude.{◌≡◌, ◌⊎◌, ℕ, Bool, ◌&&◌, ◌==◌, not, if◌then◌else◌, List, [], filter, length, Option, None, Some, slice_get}
 use Rattle.std.specs.List.{range_with_len}
 use Rattle.std.specs.Str.{bytes_eq}
 use Rattle.nl_damage.specs.declared.sums.digests.Digest.{Digest}
@@ -7,6 +7,8 @@ use Rattle.nl_damage.specs.declared.sums.sum.Save.{Save}
 use Rattle.nl_damage.specs.declared.sums.sum.Sum.{Sum}
 use Rattle.nl_damage.specs.declared.sums.comparing.Comparison.{Comparison}
 use Rattle.nl_damage.specs.declared.sums.comparing.Comparison.TheVariants.{Same, OtherSave, Differs}
+use Rattle.nl_damage.specs.ImageSums.{IsImageSum}
+use Rattle.nl_damage.specs.SumTexts.{IsPrinted}
 
 abbrev pub is_same_digest : Digest → Digest → Bool
 is_same_digest one other = bytes_eq one.digits other.digits
@@ -39,3 +41,36 @@ comparison_of saved present =
     then (if is_same_digest saved.whole present.whole then Same
     else Differs (differing saved.segments present.segments))
     else OtherSave
+
+-- ---- an image beside a text
+
+-- bytes that have no sum are of another save
+abbrev pub IsBeside : List ℕ → Sum → Comparison → Type 0
+IsBeside image saved comparison =
+    ((present : Sum) × IsImageSum image present × (comparison ≡ comparison_of saved present))
+    ⊎ (((present : Sum) → IsImageSum image present → ⊥) × (comparison ≡ OtherSave))
+
+-- what the image is beside the sum that is printed so; none where no sum is
+abbrev pub IsBesideText : (image text : List ℕ) → Option Comparison → Type 0
+IsBesideText image text None = (saved : Sum) → IsPrinted saved text → ⊥
+IsBesideText image text (Some comparison) =
+    (saved : Sum) × IsPrinted saved text × IsBeside image saved comparison
+
+-- ---- segments that differ
+
+abbrev pub differing_in : Comparison → List ℕ
+differing_in (Differs segments) = segments
+differing_in comparison = []
+
+abbrev pub differing_told : Option Comparison → List ℕ
+differing_told None = []
+differing_told (Some comparison) = differing_in comparison
+
+-- no segment of the image differs from the sum
+abbrev pub NoneDiffer : (image : List ℕ) → Sum → Type 0
+NoneDiffer image saved =
+    (present : Sum) → IsImageSum image present → differing_in (comparison_of saved present) ≡ []
+
+-- nor from the one that is printed so
+abbrev pub NoneDifferFrom : (image text : List ℕ) → Type 0
+NoneDifferFrom image text = (saved : Sum) → IsPrinted saved text → NoneDiffer image saved

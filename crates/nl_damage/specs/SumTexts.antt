@@ -51,3 +51,8 @@ pub record IsSum (sum : Sum) : Type 0 where
   pub whole : IsDigest sum.whole
   pub each : All IsDigest sum.segments
   pub count : length sum.segments ≡ sum.save.segments
+
+-- a sum, and its text
+pub record IsPrinted (sum : Sum) (text : List ℕ) : Type 0 where
+  pub is_sum : IsSum sum
+  pub spelled : sum_text sum ≡ text

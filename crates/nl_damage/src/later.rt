@@ -4,11 +4,9 @@ ghost use Rattle.nl_types.specs.Blocks.Segments.{Segments};
 ghost use Rattle.nl_layout.specs.declared.checkpoint_entry.CheckpointEntry as entry;
 ghost use Rattle.nl_segwriter.specs.Writing.{held_in};
 ghost use Rattle.nl_dat.specs.Images.{IsTableOver};
-ghost use Rattle.nl_image.specs.Conditions.{MeetsFirst};
-ghost use Rattle.nl_image.specs.Parts.{Parts};
 ghost use Rattle.nl_image.specs.Reading.{HaveOwn, IsOwnEntry};
-ghost use Rattle.nl_damage.specs.Judging.{AreJudged, AreJudgedBytes, AreRead, AreSegments, AreZero, HaveLogs, IsFound, IsJudged, TellLogs, TellTrees, TellZeros, held_by};
-ghost use Rattle.nl_damage.specs.Sections.{AreWhole, HasTooMany};
+ghost use Rattle.nl_damage.specs.Judging.{AreJudged, AreRead, AreSegments, AreZero, HaveLogs, IsFound, IsJudged, IsJudgedOf, TellLogs, TellTrees, TellZeros, held_by};
+ghost use Rattle.nl_damage.specs.Sections.{AreWhole};
 
 use crate::pages::{ImagePages, holds_by, judge_by};
 use crate::places::{Place, place_of};
@@ -209,8 +207,7 @@ impl Judged {
     /// What is judged of the bytes of an image. Where one of its first three conditions fails that is nothing.
     /// Refused by want of memory.
     pub fn of(alloc: Global, image: &[u8]) -> Result<Judged, AllocError>
-        ensures { IfOk result (λ judged. (p : Parts) → MeetsFirst 3 image.now p
-            → (HasTooMany p.shape → ⊥) → AreJudgedBytes image.now p judged) }
+        ensures { IfOk result (IsJudgedOf image.now) }
     {
         match Sections::of_whole(image) {
             Some(sections) => Judged::of_whole(alloc, &sections),

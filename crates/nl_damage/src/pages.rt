@@ -1,11 +1,11 @@
 //! The pages and periods that the table of an image gives virtual block numbers, sound or not.
-ghost use Rattle.std.specs.Prelude.{◌≡◌, IfOk, length, map, option_copied};
+ghost use Rattle.std.specs.Prelude.{◌≡◌, IfErr, IfOk, length, map, option_copied};
 ghost use Rattle.std.specs.Option.{option_and_then};
 ghost use Rattle.nl_check.specs.Judging.{told};
 ghost use Rattle.nl_check.specs.Verdicts.{IsVerdict};
 ghost use Rattle.nl_dat.specs.EntryBytes.{end_at};
 ghost use Rattle.nl_damage.specs.Judging.{shown_by};
-ghost use Rattle.nl_damage.specs.Pages.{ArePagesOf, entry_in, numbered_at, numbered_by, numbered_in, pages_of, periods_of, told_in};
+ghost use Rattle.nl_damage.specs.Pages.{ArePagesOf, entry_in, numbered_at, numbered_by, numbered_in, RefusesPages, pages_of, periods_of, told_in};
 
 use crate::sections::Sections;
 use byteorder::{ByteOrder, LittleEndian};
@@ -116,7 +116,7 @@ fn read_numbered(
 }
 
 impl ImagePages {
-    ghost use Rattle.std.specs.Prelude.{◌≤◌, ℕ, IsSome};
+    ghost use Rattle.std.specs.Prelude.{◌-◌, ◌≤◌, ℕ, IsSome};
 
     /// The pages of the numbers from 0 up to the count of blocks. Refused by want of memory: each number in
     /// use takes a page.
@@ -135,7 +135,8 @@ impl ImagePages {
 
     /// A number that no number with a page is above.
     pub(crate) fn last(&self) -> u64
-        ensures { (v : ℕ) → IsSome (numbered_at self.now v) → v ≤ result }
+        ensures last { (v : ℕ) → IsSome (numbered_at self.now v) → v ≤ result }
+        ensures count { result ≡ length self.now.table - 1 }
     {
         (self.table.len() as u64).saturating_sub(1)
     }
@@ -210,7 +211,9 @@ pub(crate) fn judge_by(
     geometry: Geometry,
     kept: &[CheckpointEntry],
 ) -> Result<Option<Verdict>, VolError>
-    ensures { IfOk result (IsVerdict (pages_of pages.now) (periods_of pages.now) (map told kept.now)) }
+    ensures verdict { IfOk result
+        (IsVerdict (pages_of pages.now) (periods_of pages.now) (map told kept.now)) }
+    ensures refused { IfErr result (RefusesPages pages.now geometry) }
 {
     if pages.last() > u64::from(geometry.total()) {
         return Err(VolError::Fault);

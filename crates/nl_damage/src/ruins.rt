@@ -1,9 +1,10 @@
 //! The trees of checkpoints of a damaged image, as far as their blocks can be read.
-ghost use Rattle.std.specs.Prelude.{◌≡◌, [], IfOk};
+ghost use Rattle.std.specs.Prelude.{◌≡◌, [], IfErr, IfOk};
+ghost use Rattle.nl_types.specs.declared.error.VolError;
 ghost use Rattle.nl_types.specs.Plain.Trees.{Tree};
 ghost use Rattle.nl_folders.specs.Spelled.{IsNameable};
 ghost use Rattle.nl_check.specs.Judging.{told};
-ghost use Rattle.nl_damage.specs.Pages.{pages_of};
+ghost use Rattle.nl_damage.specs.Pages.{RefusesPages, pages_of};
 ghost use Rattle.nl_damage.specs.WholeTrees.{HasTree, IsWhole};
 
 use crate::pages::ImagePages;
@@ -72,7 +73,9 @@ pub(crate) fn records_of(
     alloc: Global,
     pages: &ImagePages,
     inode: &Inode,
-) -> Result<(Vec<Record>, bool), VolError> {
+) -> Result<(Vec<Record>, bool), VolError>
+    ensures { IfErr result (λ e. e ≡ VolError.Memory) }
+{
     let mut all = Vec::new(alloc);
     let mut is_whole = inode.size % BLOCK_SIZE as u64 == 0;
     let count = (inode.size / BLOCK_SIZE as u64).min(u64::from(VOLUME_BLOCK_LIMIT));
@@ -122,6 +125,7 @@ impl Ruin {
     ) -> Result<Ruin, VolError>
         ensures whole { IfOk result (λ ruin. (tree : Tree)
             → HasTree (pages_of pages.now) (told entry.now) tree → IsNameable tree → IsWhole tree ruin) }
+        ensures refused { IfErr result (RefusesPages pages.now geometry) }
     {
         match sound_tree(alloc, pages, geometry, entry)? {
             Some(tree) => Ok(Ruin::whole(alloc, tree)),
@@ -134,7 +138,9 @@ impl Ruin {
         alloc: Global,
         pages: &ImagePages,
         entry: &CheckpointEntry,
-    ) -> Result<Ruin, VolError> {
+    ) -> Result<Ruin, VolError>
+        ensures { IfErr result (λ e. e ≡ VolError.Memory) }
+    {
         match entry.root.root() {
             Some(root) => Walk::through(alloc, pages, root),
             None => Ok(Ruin::new(alloc)),
@@ -162,7 +168,9 @@ impl<'a> Walk<'a> {
     }
 
     /// All that can be read of it.
-    fn through(alloc: Global, pages: &'a ImagePages, root: Root) -> Result<Ruin, VolError> {
+    fn through(alloc: Global, pages: &'a ImagePages, root: Root) -> Result<Ruin, VolError>
+        ensures { IfErr result (λ e. e ≡ VolError.Memory) }
+    {
         let mut walk = Walk::new(alloc, pages, root)?;
         // Each inode is read once.
         for _ in 0..INODE_LIMIT {
@@ -202,7 +210,9 @@ impl<'a> Walk<'a> {
     }
 
     /// Whether the blocks of a file can be read, each of which has a place for it.
-    fn has_blocks(&self, inode: &Inode) -> Result<bool, VolError> {
+    fn has_blocks(&self, inode: &Inode) -> Result<bool, VolError>
+        ensures { IfErr result (λ e. e ≡ VolError.Memory) }
+    {
         let last = self.pages.last();
         if last > u64::from(VOLUME_BLOCK_LIMIT) {
             return Ok(false);
@@ -212,7 +222,9 @@ impl<'a> Walk<'a> {
     }
 
     /// The inode of a number that is of this kind, and whose blocks can be read.
-    fn sound_inode(&self, number: InodeNumber, kind: Kind) -> Result<Option<Inode>, VolError> {
+    fn sound_inode(&self, number: InodeNumber, kind: Kind) -> Result<Option<Inode>, VolError>
+        ensures { IfErr result (λ e. e ≡ VolError.Memory) }
+    {
         let Some(inode) = inode(self.pages, self.root, number) else {
             return Ok(None);
         };
@@ -224,7 +236,9 @@ impl<'a> Walk<'a> {
     }
 
     /// Reads what a name leads to.
-    fn visit(&mut self, next: Pending) -> Result<(), VolError> {
+    fn visit(&mut self, next: Pending) -> Result<(), VolError>
+        ensures { IfErr result (λ e. e ≡ VolError.Memory) }
+    {
         let Pending { path, number, kind } = next;
         if length_of(path.as_slice()) > PATH_LENGTH_LIMIT || !self.take(number) {
             self.lose(path)?;
@@ -242,7 +256,9 @@ impl<'a> Walk<'a> {
         }
     }
 
-    fn add_file(&mut self, path: Path, number: InodeNumber, inode: &Inode) -> Result<(), VolError> {
+    fn add_file(&mut self, path: Path, number: InodeNumber, inode: &Inode) -> Result<(), VolError>
+        ensures { IfErr result (λ e. e ≡ VolError.Memory) }
+    {
         if inode.size > FILE_LIMIT {
             self.lose(path)?;
             return Ok(());
@@ -255,7 +271,9 @@ impl<'a> Walk<'a> {
         Ok(())
     }
 
-    fn add_directory(&mut self, path: Path, inode: &Inode) -> Result<(), VolError> {
+    fn add_directory(&mut self, path: Path, inode: &Inode) -> Result<(), VolError>
+        ensures { IfErr result (λ e. e ≡ VolError.Memory) }
+    {
         let (records, is_whole) = records_of(self.alloc, self.pages, inode)?;
         let has_all = self.add_names(path.as_slice(), records.as_slice())?;
         if !is_whole || !has_all {

@@ -6,7 +6,7 @@ ghost use Rattle.nl_layout.specs.declared.checkpoint_entry.CheckpointEntry as en
 ghost use Rattle.nl_image.specs.Conditions.{IsShapeOf, MeetsFirst};
 ghost use Rattle.nl_image.specs.Parts.{Parts};
 ghost use Rattle.nl_damage.specs.Pages.{entry_in};
-ghost use Rattle.nl_damage.specs.Sections.{ArePlaces, AreSections, AreWhole, CountsDivide, HasTooMany, IsEntryAt, item_in, last_place, mended_superblock};
+ghost use Rattle.nl_damage.specs.Sections.{AreImageSections, ArePlaces, AreSections, AreWhole, CountsDivide, HasTooMany, IsEntryAt, IsLatest, item_in, mended_superblock};
 
 use byteorder::{ByteOrder, LittleEndian};
 use nl_image::geometry_of;
@@ -50,6 +50,7 @@ impl Places {
     fn of(geometry: Geometry, superblock: Superblock) -> Option<Places>
         requires { IsShapeOf geometry superblock }
         ensures found { IfSome result (ArePlaces superblock) }
+        ensures few { IfSome result (λ _. HasTooMany superblock → ⊥) }
         ensures none { IfNone result (HasTooMany superblock) }
     {
         // So the sums below have room.
@@ -148,6 +149,7 @@ impl<'a> Sections<'a> {
             (p : Parts) × MeetsFirst 2 image.now p × (p.shape ≡ x.superblock)) }
         ensures only { IfSome result (λ x.
             (p : Parts) → MeetsFirst 2 image.now p → p.shape ≡ x.superblock) }
+        ensures few { IfSome result (λ x. HasTooMany x.superblock → ⊥) }
         ensures none { IfNone result ((p : Parts) → MeetsFirst 2 image.now p → HasTooMany p.shape) }
     {
         Sections::divided(image, superblock_of(image)?)
@@ -156,6 +158,7 @@ impl<'a> Sections<'a> {
     /// The same of bytes that meet the third one too: an image is as long as its superblock tells.
     pub(crate) fn of_whole(image: &'a [u8]) -> Option<Sections<'a>>
         ensures sections { IfSome result (AreSections image.now) }
+        ensures image { IfSome result (AreImageSections image.now) }
         ensures whole { IfSome result AreWhole }
         ensures none { IfNone result ((p : Parts) → MeetsFirst 3 image.now p → HasTooMany p.shape) }
         ensures only { IfSome result (λ x.
@@ -182,6 +185,7 @@ impl<'a> Sections<'a> {
     fn divided(image: &'a [u8], superblock: Superblock) -> Option<Sections<'a>>
         ensures sections { IfSome result (AreSections image.now) }
         ensures superblock { IfSome result (λ x. x.superblock ≡ superblock) }
+        ensures few { IfSome result (λ _. HasTooMany superblock → ⊥) }
         ensures none { IfNone result
             (IsGeometry superblock.segments superblock.blocks → HasTooMany superblock) }
     {
@@ -195,6 +199,7 @@ impl<'a> Sections<'a> {
         requires { IsShapeOf geometry superblock }
         ensures sections { IfSome result (AreSections image.now) }
         ensures superblock { IfSome result (λ x. x.superblock ≡ superblock) }
+        ensures few { IfSome result (λ _. HasTooMany superblock → ⊥) }
         ensures none { IfNone result (HasTooMany superblock) }
     {
         let places = Places::of(geometry, superblock)?;
@@ -238,10 +243,8 @@ impl<'a> Sections<'a> {
 
     /// The number of the latest checkpoint, 0 where its entry can't be read.
     pub fn latest(self) -> CheckpointNumber
-        ensures read { (e : entry.CheckpointEntry) → IsEntryAt self.entry (last_place self.entry) e
-            → result ≡ e.number }
-        ensures unread { ((e : entry.CheckpointEntry) → IsEntryAt self.entry (last_place self.entry) e → ⊥)
-            → result ≡ 0 }
+        ensures latest { IsLatest self.entry result }
+        ensures only { (n : ℕ) → IsLatest self.entry n → n ≡ result }
     {
         match self.checkpoint(self.entries().saturating_sub(1)) {
             Some(entry) => entry.number,

@@ -1,10 +1,11 @@
 //! The tree of a checkpoint that is sound, in an image that may be damaged elsewhere.
-ghost use Rattle.std.specs.Prelude.{◌≡◌, true, IfOk, Some};
+ghost use Rattle.std.specs.Prelude.{◌≡◌, true, IfErr, IfOk, Some};
+ghost use Rattle.nl_types.specs.declared.error.VolError;
 ghost use Rattle.nl_types.specs.Plain.Trees.{Tree};
 ghost use Rattle.nl_layout.specs.Root.{root_of};
 ghost use Rattle.nl_folders.specs.Spelled.{IsNameable};
 ghost use Rattle.nl_check.specs.Judging.{told};
-ghost use Rattle.nl_damage.specs.Pages.{pages_of};
+ghost use Rattle.nl_damage.specs.Pages.{RefusesPages, pages_of};
 ghost use Rattle.nl_damage.specs.WholeTrees.{HasTree, StandsForTree};
 
 use crate::pages::{ImagePages, judge_by};
@@ -63,8 +64,9 @@ impl<V: VRead> Folder for RootFolder<'_, V> {
 
 /// The tree of a root. None where no call can name one of its paths, or it has none.
 fn tree_of(alloc: Global, pages: &ImagePages, root: Root) -> Result<Option<Tree>, VolError>
-    ensures { IfOk result (λ read. (tree : Tree) → StandsForTree (pages_of pages.now) (root_of root) tree
-        → IsNameable tree → read ≡ Some tree) }
+    ensures tree { IfOk result (λ read. (tree : Tree)
+        → StandsForTree (pages_of pages.now) (root_of root) tree → IsNameable tree → read ≡ Some tree) }
+    ensures refused { IfErr result (λ e. e ≡ VolError.Memory) }
 {
     match whole_tree(alloc, &mut RootFolder { alloc, pages, root }) {
         Ok(tree) => Ok(Some(tree)),
@@ -80,8 +82,9 @@ fn is_sound(
     geometry: Geometry,
     entry: &CheckpointEntry,
 ) -> Result<bool, VolError>
-    ensures { IfOk result (λ is. (tree : Tree) → HasTree (pages_of pages.now) (told entry.now) tree
-        → is ≡ true) }
+    ensures sound { IfOk result (λ is. (tree : Tree)
+        → HasTree (pages_of pages.now) (told entry.now) tree → is ≡ true) }
+    ensures refused { IfErr result (RefusesPages pages.now geometry) }
 {
     let kept = [*entry];
     match judge_by(alloc, pages, geometry, &kept)? {
@@ -101,8 +104,9 @@ pub(crate) fn sound_tree(
     geometry: Geometry,
     entry: &CheckpointEntry,
 ) -> Result<Option<Tree>, VolError>
-    ensures { IfOk result (λ read. (tree : Tree) → HasTree (pages_of pages.now) (told entry.now) tree
-        → IsNameable tree → read ≡ Some tree) }
+    ensures tree { IfOk result (λ read. (tree : Tree)
+        → HasTree (pages_of pages.now) (told entry.now) tree → IsNameable tree → read ≡ Some tree) }
+    ensures refused { IfErr result (RefusesPages pages.now geometry) }
 {
     if !is_sound(alloc, pages, geometry, entry)? {
         return Ok(None);

@@ -7,7 +7,7 @@ mod printing;
 mod reading;
 mod sum;
 
-pub use comparing::{Comparison, compare};
+pub use comparing::{Comparison, compare_text};
 pub use digests::Digest;
 pub use printing::printed;
 pub use reading::read_sum;

@@ -1,8 +1,9 @@
 //! What differs between an image and its sum.
-ghost use Rattle.std.specs.Prelude.{◌≡◌, [], ◌∷◌, ◌++◌, if◌then◌else◌, IfOk, OnOk};
-ghost use Rattle.nl_damage.specs.SumComparing.{comparison_of, differing, differs_at, digits_at, is_one_save, is_same_digest};
+ghost use Rattle.std.specs.Prelude.{◌≡◌, ◌↔◌, [], ◌∷◌, ◌++◌, if◌then◌else◌, IfOk, OnOk};
+ghost use Rattle.nl_damage.specs.SumComparing.{IsBeside, IsBesideText, NoneDiffer, NoneDifferFrom, comparison_of, differing, differing_in, differing_told, differs_at, digits_at, is_one_save, is_same_digest};
 
 use crate::sums::digests::Digest;
+use crate::sums::reading::read_sum;
 use crate::sums::sum::{Save, Sum};
 use nl_types::Items;
 use std::alloc::{AllocError, Global};
@@ -17,6 +18,18 @@ pub enum Comparison {
     /// It is of this save, and these segments have other bytes, ascending. Where none has, the sum itself is
     /// damaged.
     Differs(Items<u64>),
+}
+
+impl Comparison {
+    /// The segments that have other bytes, ascending.
+    pub fn differing(&self) -> &[u64]
+        ensures { result.now ≡ differing_in self.now }
+    {
+        match self {
+            Comparison::Differs(segments) => segments.as_slice(),
+            Comparison::Same | Comparison::OtherSave => &[],
+        }
+    }
 }
 
 fn is_same_digest(one: &Digest, other: &Digest) -> bool
@@ -81,7 +94,7 @@ fn differing(alloc: Global, one: &[Digest], other: &[Digest]) -> Result<Items<u6
 }
 
 /// What an image whose sum is `present` is beside a sum that was saved.
-pub fn compare(alloc: Global, saved: &Sum, present: &Sum) -> Result<Comparison, AllocError>
+fn compare(alloc: Global, saved: &Sum, present: &Sum) -> Result<Comparison, AllocError>
     ensures { IfOk result (λ comparison. comparison ≡ comparison_of saved.now present.now) }
 {
     if !is_one_save(&saved.save, &present.save) {
@@ -96,4 +109,38 @@ pub fn compare(alloc: Global, saved: &Sum, present: &Sum) -> Result<Comparison, 
         present.segments.as_slice(),
     )?;
     Ok(Comparison::Differs(places))
+}
+
+/// What an image is beside a saved sum. Bytes that have no sum are of another save.
+fn compare_image(alloc: Global, saved: &Sum, image: &[u8]) -> Result<Comparison, AllocError>
+    ensures beside { IfOk result (IsBeside image.now saved.now) }
+    ensures exact { IfOk result (λ comparison.
+        (differing_in comparison ≡ []) ↔ NoneDiffer image.now saved.now) }
+{
+    match Sum::of_image(alloc, image)? {
+        Some(present) => compare(alloc, saved, &present),
+        None => Ok(Comparison::OtherSave),
+    }
+}
+
+/// What an image is beside the sum that is printed as this text. None where no sum is.
+///
+/// # Errors
+/// Memory.
+pub fn compare_text(
+    alloc: Global,
+    image: &[u8],
+    text: &[u8],
+) -> Result<Option<Comparison>, AllocError>
+    ensures beside { IfOk result (IsBesideText image.now text.now) }
+    ensures exact { IfOk result (λ told.
+        (differing_told told ≡ []) ↔ NoneDifferFrom image.now text.now) }
+{
+    match read_sum(alloc, text)? {
+        Some(saved) => {
+            let comparison = compare_image(alloc, &saved, image)?;
+            Ok(Some(comparison))
+        }
+        None => Ok(None),
+    }
 }

@@ -1,8 +1,8 @@
 //! Sums, read from the texts that they are printed as.
-ghost use Rattle.std.specs.Prelude.{◌≡◌, IfOk, IfSome, Some};
+ghost use Rattle.std.specs.Prelude.{◌≡◌, All, IfOk, IfSome, Some, length};
 ghost use Rattle.std.specs.Option.{option_map};
 ghost use Rattle.nl_damage.specs.Private.SumReading.{divided_at, front_at, kept_at, save_at, is_spelled, segments_at, sum_at, sum_in};
-ghost use Rattle.nl_damage.specs.SumTexts.{IsSum, sum_text};
+ghost use Rattle.nl_damage.specs.SumTexts.{IsDigest, IsPrinted, IsSum};
 ghost use Rattle.nl_damage.specs.declared.sums.sum.Sum.{Sum};
 
 use crate::sums::digests::Digest;
@@ -54,7 +54,9 @@ fn save_of(bytes: &[u8]) -> Option<(Save, &[u8])>
 
 /// The digests of so many lines. None where one of them isn't there.
 fn segments_of(alloc: Global, count: u64, bytes: &[u8]) -> Result<Option<Items<Digest>>, AllocError>
-    ensures { IfOk result (λ read. read ≡ segments_at count bytes.now) }
+    ensures read { IfOk result (λ read. read ≡ segments_at count bytes.now) }
+    ensures each { IfOk result (λ read. IfSome read (All IsDigest)) }
+    ensures count { IfOk result (λ read. IfSome read (λ all. length all ≡ count)) }
 {
     let mut digests = Items::new(alloc);
     let mut left = bytes;
@@ -84,7 +86,8 @@ fn front_of(bytes: &[u8]) -> Option<Front<'_>>
 /// A sum by the fields that stand in the bytes. Others may have the same fields.
 #[tactic(auto, unfolding(crate::specs::Private::SumReading::sum_at))]
 fn fields_of(alloc: Global, bytes: &[u8]) -> Result<Option<Sum>, AllocError>
-    ensures { IfOk result (λ read. read ≡ sum_at bytes.now) }
+    ensures read { IfOk result (λ read. read ≡ sum_at bytes.now) }
+    ensures sums { IfOk result (λ read. IfSome read IsSum) }
 {
     let Some((save, whole, rest)) = front_of(bytes) else {
         return Ok(None);
@@ -108,7 +111,8 @@ fn is_spelled(alloc: Global, sum: &Sum, bytes: &[u8]) -> Result<bool, AllocError
 
 #[tactic(auto, unfolding(crate::specs::Private::SumReading::sum_in))]
 fn sum_in(alloc: Global, bytes: &[u8]) -> Result<Option<Sum>, AllocError>
-    ensures { IfOk result (λ read. read ≡ sum_in bytes.now) }
+    ensures read { IfOk result (λ read. read ≡ sum_in bytes.now) }
+    ensures sums { IfOk result (λ read. IfSome read IsSum) }
 {
     let Some(sum) = fields_of(alloc, bytes)? else {
         return Ok(None);
@@ -125,9 +129,8 @@ fn sum_in(alloc: Global, bytes: &[u8]) -> Result<Option<Sum>, AllocError>
 /// # Errors
 /// Memory.
 pub fn read_sum(alloc: Global, bytes: &[u8]) -> Result<Option<Sum>, AllocError>
-    ensures found { IfOk result (λ read. IfSome read (λ sum. sum_text sum ≡ bytes.now)) }
-    ensures only { IfOk result (λ read. (sum : Sum) → IsSum sum → sum_text sum ≡ bytes.now
-        → read ≡ Some sum) }
+    ensures found { IfOk result (λ read. IfSome read (λ sum. IsPrinted sum bytes.now)) }
+    ensures only { IfOk result (λ read. (sum : Sum) → IsPrinted sum bytes.now → read ≡ Some sum) }
 {
     sum_in(alloc, bytes)
 }

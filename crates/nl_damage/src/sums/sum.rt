@@ -1,8 +1,11 @@
 //! What the sum of an image has.
-ghost use Rattle.std.specs.Prelude.{◌≡◌, ◌≤◌, ◌*◌, ◌+◌, IfOk, length, map};
+ghost use Rattle.std.specs.Prelude.{◌≡◌, ◌≤◌, ◌*◌, ◌+◌, IfOk, IfSome, Some, length, map};
 ghost use Rattle.std.specs.List.{range_with_len};
-ghost use Rattle.nl_damage.specs.ImageSums.{IsSumOf, digest_of, digest_of_segment, tables_of};
+ghost use Rattle.nl_damage.specs.ImageSums.{IsImageSum, IsKeptIn, IsSumOf, digest_of, digest_of_segment, tables_of};
+ghost use Rattle.nl_damage.specs.declared.sums.sum.Kept as kept;
+ghost use Rattle.nl_damage.specs.declared.sums.sum.Sum as sum;
 
+use crate::sections::Sections;
 use crate::sums::digests::Digest;
 use nl_types::{BLOCK_SIZE, Geometry, Items};
 use std::alloc::{AllocError, Global};
@@ -12,6 +15,19 @@ use std::alloc::{AllocError, Global};
 pub struct Kept {
     pub count: u64,
     pub latest: u64,
+}
+
+impl Kept {
+    /// Those that the table of an image tells. The latest one's number is 0 where its entry can't be read.
+    pub fn of(sections: &Sections<'_>) -> Kept
+        ensures kept { IsKeptIn sections.now result }
+        ensures only { (told : kept.Kept) → IsKeptIn sections.now told → told ≡ result }
+    {
+        Kept {
+            count: sections.superblock.checkpoints,
+            latest: sections.latest().get(),
+        }
+    }
 }
 
 /// What tells the save of an image from all others. No two have the same tables, as each change of a volume
@@ -98,5 +114,23 @@ impl Sum {
             whole: Digest::of(image),
             segments,
         })
+    }
+
+    /// The sum of bytes that meet the first three conditions of an image, by what their own tables tell. None of
+    /// other bytes.
+    ///
+    /// # Errors
+    /// Memory.
+    pub fn of_image(alloc: Global, image: &[u8]) -> Result<Option<Sum>, AllocError>
+        ensures found { IfOk result (λ made. IfSome made (IsImageSum image.now)) }
+        ensures only { IfOk result (λ made. (it : sum.Sum) → IsImageSum image.now it → made ≡ Some it) }
+    {
+        match Sections::of_whole(image) {
+            Some(sections) => {
+                let sum = Sum::of(alloc, image, sections.geometry, Kept::of(&sections))?;
+                Ok(Some(sum))
+            }
+            None => Ok(None),
+        }
     }
 }

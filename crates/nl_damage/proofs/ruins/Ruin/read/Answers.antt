@@ -9,16 +9,12 @@ always : {T E : Type 0} {P : T → Type 0} (r : Result T E) → ((x : T) → P x
 always (Ok x) holds = holds x
 always (Err e) holds = tt
 
-pub returns-in-Some : goal.returns-in-Some
-returns-in-Some c = record {
-  whole = λ tree has nameable.
-      subst (λ (t : Tree). IsWhole t c.whole.result)
-      (same_Some c.in-Some.tree tree (sym c.in-Some.is ∙ c.in_ok-tree.ensures tree has nameable)) c.whole.ensures;
-}
+pub returns-in-Some-clause-whole : goal.returns-in-Some-clause-whole
+returns-in-Some-clause-whole c tree has nameable =
+    subst (λ (t : Tree). IsWhole t c.whole.result)
+    (same_Some c.in-Some.tree tree (sym c.in-Some.is ∙ c.in_ok-tree.ensures.tree tree has nameable)) c.whole.ensures
 
-pub returns-in-None : goal.returns-in-None
-returns-in-None c = record {
-  whole = always c.of_pieces.result (λ ruin tree has nameable.
-      let none : None ≡ Some tree = sym c.in-None.is ∙ c.in_ok-tree.ensures tree has nameable in
-      cc);
-}
+pub returns-in-None-clause-whole : goal.returns-in-None-clause-whole
+returns-in-None-clause-whole c = always c.of_pieces.result (λ ruin tree has nameable.
+    let none : None ≡ Some tree = sym c.in-None.is ∙ c.in_ok-tree.ensures.tree tree has nameable in
+    cc)
