@@ -7,3 +7,6 @@ pub mod PassedOn
 pub mod Repinned
 pub mod Saved
 pub mod ShownTrees
+pub mod SumFiles
+pub mod Verdicts
+pub mod WholeRescues

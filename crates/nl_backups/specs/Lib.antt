@@ -1,3 +1,4 @@
+pub mod Checking
 pub mod Commands
 pub mod Effects
 pub mod Hosts
@@ -6,5 +7,6 @@ pub mod Pinning
 pub mod Pruning
 pub mod Readings
 pub mod Refusals
+pub mod Rescuing
 pub mod Reverting
 pub mod Storing

@@ -1,36 +1,19 @@
 //! `check`: whether an image is sound, and what of it changed since it was saved.
-ghost use Rattle.std.specs.Prelude.{◌≡◌, ◌⊎◌, IfErr, IfNone, IfOk, IfSome};
-ghost use Rattle.nl_types.specs.declared.error.VolError;
-ghost use Rattle.nl_image.specs.Conditions.{AreImage, FirstFails};
-
 use crate::asking::{Outcome, word};
 use crate::complaining::complain;
-use crate::faults::{Fault, volume_fault};
-use crate::image_files::{Purpose, irregular, read_for};
+use crate::faults::Fault;
+use crate::image_files::irregular;
+use crate::judging::{JudgedImage, SumBeside};
 use crate::printing::Printer;
-use crate::sums::{Summed, beside_sum, kept_in, sum_path};
+use crate::sums::kept_in;
 use crate::verdicts::tell_objects;
 use clap::ArgMatches;
+use nl_backups::{Beside, Checked, Verdict, beside_sum};
 use nl_damage::sums::{Comparison, Kept};
-use nl_damage::{Finding, Judged, Place, Sections, path_of, place_of};
-use nl_keep_pen::OpenedVolume;
-use nl_saving::FirstBytes;
-use nl_types::{BLOCK_SIZE, VolError};
+use nl_damage::{Finding, Place, Sections, path_of, place_of};
+use nl_types::BLOCK_SIZE;
 use std::alloc::{AllocError, Global};
 use std::io::{self, Write};
-
-/// The number of the first condition that an image fails, as opening it tells. None where it is sound.
-fn first_failing(alloc: Global, image: &[u8]) -> Result<Option<u8>, VolError>
-    ensures sound { IfOk result (λ failing. IfNone failing (AreImage image.now)) }
-    ensures first { IfOk result (λ failing. IfSome failing (λ n. FirstFails n image.now)) }
-    ensures refused { IfErr result (λ e. (e ≡ VolError.Fault) ⊎ (e ≡ VolError.Memory)) }
-{
-    match OpenedVolume::open(alloc, image) {
-        Ok(_) => Ok(None),
-        Err(VolError::BadImage(number)) => Ok(Some(number)),
-        Err(error) => Err(error),
-    }
-}
 
 /// What a condition asks of an image, as docs/SPECIFICATION.md has it.
 pub fn condition(number: u8) -> &'static str {
@@ -73,22 +56,14 @@ fn ending(count: u64) -> &'static str {
 }
 
 /// What is said of an image and its sum where no segment differs.
-fn said_of(summed: &Summed) -> &'static str {
-    match summed {
-        Summed::Missing => "is not there",
-        Summed::Unread => "cannot be read",
-        Summed::NoSum => "is no sum",
-        Summed::Compared(Comparison::Same) => "has the same bytes",
-        Summed::Compared(Comparison::OtherSave) => "is of another save",
-        Summed::Compared(Comparison::Differs(_)) => "is damaged itself",
-    }
-}
-
-/// The segments that differ from the sum.
-pub fn differing(summed: &Summed) -> &[u64] {
-    match summed {
-        Summed::Compared(Comparison::Differs(segments)) => segments.as_slice(),
-        _ => &[],
+fn said_of(beside: &Beside) -> &'static str {
+    match beside {
+        Beside::Missing => "is not there",
+        Beside::Unread => "cannot be read",
+        Beside::NoSum => "is no sum",
+        Beside::Compared(Comparison::Same) => "has the same bytes",
+        Beside::Compared(Comparison::OtherSave) => "is of another save",
+        Beside::Compared(Comparison::Differs(_)) => "is damaged itself",
     }
 }
 
@@ -133,22 +108,13 @@ pub struct Told<'a> {
     pub length: Option<u64>,
     /// Where its sum stands.
     pub sum_path: &'a str,
-    pub summed: &'a Summed,
-    /// The first condition that fails. None of a sound image.
-    pub failing: Option<u8>,
-    /// What is judged of the later ones, where that is asked.
-    pub judged: Option<Judged>,
+    pub verdict: &'a Verdict,
 }
 
 impl Told<'_> {
-    /// Whether all conditions hold, and no segment differs from the sum.
-    pub fn is_sound(&self) -> bool {
-        self.failing.is_none() && differing(self.summed).is_empty()
-    }
-
     /// How many conditions are told behind the first that fails.
     pub fn later(&self, first: u8) -> u8 {
-        if self.judged.is_some() {
+        if self.verdict.judged.is_some() {
             LAST.saturating_sub(first)
         } else {
             0
@@ -167,7 +133,7 @@ impl Told<'_> {
     /// What is found of the condition that stands at this place behind the first that fails.
     pub fn judgement(&self, alloc: Global, first: u8, place: u8) -> Result<Judgement, AllocError> {
         let number = first.saturating_add(place).saturating_add(1);
-        let finding = match self.judged {
+        let finding = match self.verdict.judged {
             Some(judged) => judged.finding(alloc, self.image, number)?,
             None => Finding::NotJudged,
         };
@@ -181,7 +147,7 @@ impl Told<'_> {
 
     /// Tells which segments differ from the sum, a line each.
     fn tell_segments<W: Write>(&self, printer: &mut Printer<W>) -> io::Result<()> {
-        for segment in differing(self.summed) {
+        for segment in self.verdict.beside.differing() {
             write!(printer.out, "segment {segment} differs from ")?;
             printer.text(self.sum_path)?;
             if let Some((begin, end)) = self.place(*segment) {
@@ -195,12 +161,12 @@ impl Told<'_> {
     /// Tells what the sum is, in the same line.
     fn tell_sum<W: Write>(&self, printer: &mut Printer<W>) -> io::Result<()> {
         printer.text(self.sum_path)?;
-        writeln!(printer.out, " {}", said_of(self.summed))
+        writeln!(printer.out, " {}", said_of(&self.verdict.beside))
     }
 
     /// Tells the sum, or the segments that differ from it.
     fn tell_difference<W: Write>(&self, printer: &mut Printer<W>) -> io::Result<()> {
-        if differing(self.summed).is_empty() {
+        if self.verdict.beside.differing().is_empty() {
             self.tell_sum(printer)
         } else {
             self.tell_segments(printer)
@@ -209,7 +175,7 @@ impl Told<'_> {
 
     /// Tells that all conditions hold.
     fn tell_sound<W: Write>(&self, printer: &mut Printer<W>) -> io::Result<()> {
-        if !self.is_sound() {
+        if !self.verdict.is_sound() {
             writeln!(
                 printer.out,
                 ": damaged: all conditions hold, and bytes of blocks differ"
@@ -281,7 +247,7 @@ impl Told<'_> {
     /// Tells what is found, by lines.
     fn tell<W: Write>(&self, alloc: Global, printer: &mut Printer<W>) -> Result<(), Fault> {
         printer.text(self.path)?;
-        match self.failing {
+        match self.verdict.failing {
             Some(first) => self.tell_failing(alloc, first, printer),
             None => {
                 self.tell_sound(printer)?;
@@ -306,7 +272,7 @@ impl Told<'_> {
 
     /// What comes of the command.
     fn outcome(&self) -> Outcome {
-        if self.is_sound() {
+        if self.verdict.is_sound() {
             Outcome::Done
         } else {
             Outcome::Differs
@@ -315,8 +281,8 @@ impl Told<'_> {
 }
 
 /// Tells a sum at a path that can't be read.
-fn tell_unread(rt: &HostRuntime, path: &str, summed: &Summed) -> Outcome {
-    if !matches!(summed, Summed::Unread) {
+fn tell_unread(rt: &HostRuntime, path: &str, beside: &Beside) -> Outcome {
+    if !matches!(beside, Beside::Unread) {
         return Outcome::Done;
     }
     let why = irregular(rt, path).unwrap_or("cannot be read");
@@ -326,9 +292,13 @@ fn tell_unread(rt: &HostRuntime, path: &str, summed: &Summed) -> Outcome {
 
 /// Tells each segment that differs from the sum of an image which is copied as it is.
 pub fn tell_damage(rt: &HostRuntime, path: &str, image: &[u8]) -> Result<Outcome, Fault> {
-    let sum = sum_path(rt, path)?;
-    let summed = beside_sum(rt, sum.as_str(), image)?;
-    for segment in differing(&summed) {
+    let mut place = SumBeside::of(rt, path);
+    let beside = match beside_sum(rt.alloc(), image, &mut place) {
+        Ok(beside) => beside,
+        Err(refusal) => return Err(place.fault_of(None, refusal)),
+    };
+    let sum = place.path;
+    for segment in beside.differing() {
         let (begin, end) = place_in(image, *segment).unwrap_or((0, 0));
         let last = end.saturating_sub(1);
         complain(
@@ -338,30 +308,8 @@ pub fn tell_damage(rt: &HostRuntime, path: &str, image: &[u8]) -> Result<Outcome
             ),
         );
     }
-    let is_sound = differing(&summed).is_empty();
-    Ok(tell_unread(rt, sum.as_str(), &summed).and(Outcome::of(is_sound)))
-}
-
-/// The first condition that the image at a path fails.
-fn failing_of(alloc: Global, path: &str, image: &[u8]) -> Result<Option<u8>, Fault> {
-    match first_failing(alloc, image) {
-        Ok(failing) => Ok(failing),
-        Err(error) => Err(volume_fault(alloc, path, error)),
-    }
-}
-
-/// What is judged of the later conditions of a damaged image, where that is asked.
-fn judged_of(
-    alloc: Global,
-    image: &[u8],
-    failing: Option<u8>,
-    is_all: bool,
-) -> Result<Option<Judged>, AllocError> {
-    if is_all && failing.is_some() {
-        Ok(Some(Judged::of(alloc, image)?))
-    } else {
-        Ok(None)
-    }
+    let is_whole = beside.differing().is_empty();
+    Ok(tell_unread(rt, sum.as_str(), &beside).and(Outcome::of(is_whole)))
 }
 
 /// Judges an image, reads its sum, and tells what is found.
@@ -370,27 +318,21 @@ pub fn check<W: Write>(
     matches: &ArgMatches<'_>,
     printer: &mut Printer<W>,
 ) -> Result<Outcome, Fault> {
-    let alloc = rt.alloc();
-    let path = word(matches, "IMAGE");
-    let FirstBytes {
-        bytes: image,
-        length,
-    } = read_for(rt, path, Purpose::Judging)?;
-    let sum_path = sum_path(rt, path)?;
-    let failing = failing_of(alloc, path, image.as_slice())?;
+    let (alloc, path) = (rt.alloc(), word(matches, "IMAGE"));
+    let (mut place, mut sum) = (JudgedImage::at(rt, path), SumBeside::of(rt, path));
     let is_all = matches.get_flag("all");
+    let Checked { image, verdict } = match nl_backups::check(alloc, &mut place, &mut sum, is_all) {
+        Ok(checked) => checked,
+        Err(refusal) => return Err(sum.fault_of(place.fault.take(), refusal)),
+    };
     let told = Told {
         path,
         image: image.as_slice(),
-        length,
-        sum_path: sum_path.as_str(),
-        summed: &beside_sum(rt, sum_path.as_str(), image.as_slice())?,
-        failing,
-        judged: judged_of(alloc, image.as_slice(), failing, is_all)?,
+        length: place.length,
+        sum_path: sum.path.as_str(),
+        verdict: &verdict,
     };
     told.tell_by(alloc, matches.get_flag("json"), printer)?;
-    Ok(
-        told.outcome()
-            .and(tell_unread(rt, told.sum_path, told.summed)),
-    )
+    let unread = tell_unread(rt, told.sum_path, &verdict.beside);
+    Ok(told.outcome().and(unread))
 }

@@ -23,6 +23,7 @@ mod hosting;
 mod image_files;
 mod images;
 mod json;
+mod judging;
 mod keeping;
 mod lasting;
 mod looking;

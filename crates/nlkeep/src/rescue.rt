@@ -3,20 +3,19 @@ use crate::asking::{Outcome, word};
 use crate::complaining::complain;
 use crate::faults::{Fault, fault_at, system_fault, volume_fault};
 use crate::image_files::{Purpose, read_for};
+use crate::judging::SumBeside;
 use crate::manifests::tell_bad_manifests;
 use crate::printing::{Printer, errors, tell_paths_left_out, tell_refused};
 use crate::restore::{Put, make_new, put_told};
-use crate::sums::{Summed, beside_sum, sum_path};
 use clap::ArgMatches;
-use nl_damage::sums::Comparison;
-use nl_damage::{Doubt, Doubts, ImagePages, Ruin, Sections};
-use nl_folders::{Path, Tree};
+use nl_backups::{judge, rescue_checkpoint};
+use nl_damage::{Doubt, Doubts, ImagePages, Sections};
+use nl_folders::Path;
 use nl_host::{Manner, Reason};
-use nl_keep_pen::OpenedVolume;
 use nl_layout::CheckpointEntry;
-use nl_manifests::{LineFault, Opened, open};
+use nl_manifests::{LineFault, Opened};
 use nl_names::Name;
-use nl_pins::{is_of_pins, without_pins};
+use nl_pins::is_of_pins;
 use nl_types::{CheckpointNumber, Geometry, Items, VolError};
 use std::alloc::{AllocError, Global};
 use std::fs;
@@ -57,6 +56,18 @@ fn refused_below(
         below.push((below_number(alloc, number, path)?, fault))?;
     }
     Ok(below)
+}
+
+/// What a checkpoint shows, with the paths of what is refused as they are told.
+fn named_below(
+    alloc: Global,
+    number: CheckpointNumber,
+    opened: Opened,
+) -> Result<Opened, AllocError> {
+    let Opened { tree, refused } = opened;
+    let refused = refused_below(alloc, number, refused.into_vec())?;
+    let refused = Items::from_vec(refused);
+    Ok(Opened { tree, refused })
 }
 
 fn make_new_folder(rt: &HostRuntime, folder: &str) -> Result<(), Fault> {
@@ -128,25 +139,22 @@ impl Rescuing<'_> {
         Ok(all.is_empty())
     }
 
-    /// What the tree of a checkpoint shows, without its pins.
-    fn shown(&self, number: CheckpointNumber, tree: Tree) -> Result<Opened, AllocError> {
-        let alloc = self.rt.alloc();
-        let Opened { tree, refused } = open(alloc, without_pins(alloc, tree)?.as_slice())?;
-        let refused = refused_below(alloc, number, refused.into_vec())?;
-        let refused = Items::from_vec(refused);
-        Ok(Opened { tree, refused })
-    }
-
     /// What a checkpoint shows, as far as it can be read. None where its root can't be. What is lost is told,
     /// and what isn't to be trusted.
     fn opened(&self, entry: &CheckpointEntry) -> Result<Option<Rescued>, VolError> {
-        let Ruin { tree, lost } = Ruin::read(self.rt.alloc(), self.pages, self.geometry, entry)?;
-        if tree.is_empty() {
+        let alloc = self.rt.alloc();
+        let Some(nl_backups::Rescued { opened, lost }) = rescue_checkpoint(
+            alloc,
+            self.pages,
+            self.geometry,
+            entry,
+        )?
+        else {
             return Ok(None);
-        }
-        let is_whole = self.tell_lost(entry.number, lost)?;
+        };
+        let is_whole = self.tell_lost(entry.number, lost.into_vec())?;
         let is_trusted = self.tell_doubtful(entry)?;
-        let opened = self.shown(entry.number, tree)?;
+        let opened = named_below(alloc, entry.number, opened)?;
         Ok(Some(Rescued {
             opened,
             is_whole,
@@ -280,14 +288,11 @@ impl Rescuing<'_> {
 
 /// Whether the bytes at a path are those of a sound image, as far as its conditions and its sum tell.
 fn is_sound(rt: &HostRuntime, path: &str, image: &[u8]) -> Result<bool, Fault> {
-    if OpenedVolume::open(rt.alloc(), image).is_err() {
-        return Ok(false);
+    let mut sum = SumBeside::of(rt, path);
+    match judge(rt.alloc(), image, &mut sum, false) {
+        Ok(verdict) => Ok(verdict.is_sound()),
+        Err(refusal) => Err(sum.fault_of(None, refusal)),
     }
-    let sum_path = sum_path(rt, path)?;
-    Ok(match beside_sum(rt, sum_path.as_str(), image)? {
-        Summed::Compared(Comparison::Differs(segments)) => segments.is_empty(),
-        _ => true,
-    })
 }
 
 /// What of an image that isn't sound is to be trusted.

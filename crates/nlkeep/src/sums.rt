@@ -2,42 +2,25 @@
 use crate::asking::Outcome;
 use crate::complaining::complain;
 use crate::faults::{Fault, system_fault};
-use crate::image_files::irregular;
 use crate::lasting::{Lasting, before_save};
-use nl_core::geometry_of;
 use nl_damage::Sections;
-use nl_damage::sums::{Comparison, Kept, Sum, compare, printed, read_sum};
-use nl_saving::{FileFault, behind_links, read_first, save_marked};
-use nl_types::{BLOCK_SIZE, Items};
+use nl_damage::sums::{Kept, Sum, printed};
+use nl_saving::{behind_links, save_marked};
+use nl_types::Items;
 use std::alloc::{AllocError, Global};
+use std::fs;
 use std::path::PathBuf;
-use std::{fs, io};
 
 /// Which checkpoints an image keeps, by its table. The latest one's number is 0 where its entry can't be
 /// read.
 pub fn kept_in(image: &[u8]) -> Kept {
     match Sections::of(image) {
-        Some(sections) => Kept {
-            count: sections.superblock.checkpoints,
-            latest: sections.latest().get(),
-        },
+        Some(sections) => Kept::of(&sections),
         None => Kept {
             count: 0,
             latest: 0,
         },
     }
-}
-
-/// The sum of an image. None where the bytes are divided as none.
-pub fn sum_of(alloc: Global, image: &[u8]) -> Result<Option<Sum>, AllocError> {
-    let Ok(geometry) = geometry_of(image) else {
-        return Ok(None);
-    };
-    if image.len() < BLOCK_SIZE * geometry.total() as usize {
-        return Ok(None);
-    }
-    let sum = Sum::of(alloc, image, geometry, kept_in(image))?;
-    Ok(Some(sum))
 }
 
 /// The path of the file that the links of an image's path lead to.
@@ -59,6 +42,10 @@ pub fn sum_path(rt: &HostRuntime, image: &str) -> Result<String, Fault> {
     Ok(beside(rt.alloc(), file.as_str())?)
 }
 
+/// No sum has more bytes: a line of 73 bytes for each of at most 4,096 segments, and less than 512 in front
+/// of them.
+pub const MOST_BYTES: u64 = 73 * 4096 + 512;
+
 // ---- a sum that is to be written
 
 /// What the file of a sum begins with, in front of a number.
@@ -71,7 +58,7 @@ pub struct PlannedSum {
     pub path: String,
     /// The file of the image.
     pub image: PathBuf,
-    /// None where the bytes that are saved are divided as no image.
+    /// None where the bytes that are saved aren't as long as an image.
     text: Option<Items<u8>>,
     /// What of the image was damaged before.
     lasting: Lasting,
@@ -92,7 +79,7 @@ impl PlannedSum {
         let alloc = rt.alloc();
         let image = image_file(rt, path)?;
         let path = beside(alloc, image.as_str())?;
-        let Some(sum) = sum_of(alloc, bytes)? else {
+        let Some(sum) = Sum::of_image(alloc, bytes)? else {
             let lasting = Lasting::none(alloc);
             return Ok(PlannedSum {
                 path,
@@ -139,49 +126,5 @@ impl PlannedSum {
         }
         let is_whole = self.lasting.tell(rt, self.path.as_str());
         self.put(rt, text.as_slice()).and(Outcome::of(is_whole))
-    }
-}
-
-// ---- the sum that stands beside an image
-
-/// No sum has more bytes: a line of 73 bytes for each of at most 4,096 segments, and less than 512 in front
-/// of them.
-pub const MOST_BYTES: u64 = 73 * 4096 + 512;
-
-/// What an image is beside the file of its sum.
-#[derive(Drop)]
-pub enum Summed {
-    /// There is no such file.
-    Missing,
-    /// The file can't be read.
-    Unread,
-    /// What is in it is no sum.
-    NoSum,
-    Compared(Comparison),
-}
-
-fn compared(alloc: Global, image: &[u8], text: &[u8]) -> Result<Summed, AllocError> {
-    let Some(saved) = read_sum(alloc, text)? else {
-        return Ok(Summed::NoSum);
-    };
-    match sum_of(alloc, image)? {
-        Some(present) => Ok(Summed::Compared(compare(alloc, &saved, &present)?)),
-        None => Ok(Summed::Compared(Comparison::OtherSave)),
-    }
-}
-
-/// What an image is beside the file of a sum at a path.
-pub fn beside_sum(rt: &HostRuntime, path: &str, image: &[u8]) -> Result<Summed, Fault> {
-    match fs::metadata(rt, path) {
-        Err(error) if error.kind() == io::ErrorKind::NotFound => return Ok(Summed::Missing),
-        _ => {}
-    }
-    if irregular(rt, path).is_some() {
-        return Ok(Summed::Unread);
-    }
-    match read_first(rt, path.as_bytes(), MOST_BYTES + 1) {
-        Ok(text) => Ok(compared(rt.alloc(), image, text.as_slice())?),
-        Err(FileFault::Unread) => Ok(Summed::Unread),
-        Err(FileFault::Refused(_)) => Err(Fault::Memory),
     }
 }

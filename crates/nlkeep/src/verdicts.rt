@@ -1,9 +1,10 @@
 //! What `check` tells, by objects of JSON.
-use crate::checking::{Judgement, Told, condition, differing};
+use crate::checking::{Judgement, Told, condition};
 use crate::faults::Fault;
 use crate::json::{object, path_text};
 use crate::printing::Printer;
-use crate::sums::{Summed, kept_in};
+use crate::sums::kept_in;
+use nl_backups::Beside;
 use nl_damage::sums::Comparison;
 use nl_damage::{Culprit, Finding, Place, path_of};
 use serde::Serialize;
@@ -84,14 +85,14 @@ struct SegmentObject {
 }
 
 /// What an image is beside its sum, in a word.
-fn sum_word(summed: &Summed) -> &'static str {
-    match summed {
-        Summed::Missing => "missing",
-        Summed::Unread => "unread",
-        Summed::NoSum => "no sum",
-        Summed::Compared(Comparison::Same) => "same",
-        Summed::Compared(Comparison::OtherSave) => "another save",
-        Summed::Compared(Comparison::Differs(segments)) => {
+fn sum_word(beside: &Beside) -> &'static str {
+    match beside {
+        Beside::Missing => "missing",
+        Beside::Unread => "unread",
+        Beside::NoSum => "no sum",
+        Beside::Compared(Comparison::Same) => "same",
+        Beside::Compared(Comparison::OtherSave) => "another save",
+        Beside::Compared(Comparison::Differs(segments)) => {
             if segments.is_empty() {
                 "damaged"
             } else {
@@ -249,16 +250,16 @@ pub fn tell_objects<W: Write>(
 ) -> Result<(), Fault> {
     let kept = kept_in(told.image);
     let whole = ImageObject {
-        sound: told.is_sound(),
+        sound: told.verdict.is_sound(),
         checkpoints: kept.count,
         latest: kept.latest,
-        sum: sum_word(told.summed),
+        sum: sum_word(&told.verdict.beside),
     };
     object(alloc, &whole, printer)?;
-    if let Some(first) = told.failing {
+    if let Some(first) = told.verdict.failing {
         tell_conditions(alloc, told, first, printer)?;
     }
-    for segment in differing(told.summed) {
+    for segment in told.verdict.beside.differing() {
         object(alloc, &segment_object(told, *segment), printer)?;
     }
     Ok(())
