@@ -29,10 +29,10 @@ use Rattle.nl_types.specs.Facts.NumberedLists.{before-lt, tied-false}
 use Rattle.nl_types.specs.Facts.NumberedParts.{find-valued, found_le_top, tied-same, tied-true, top-valued}
 use Rattle.nl_types.specs.Facts.TakenOut.{among-range, copy_at-take_out}
 use Rattle.nl_types.specs.Facts.ToldCopies.{MayGo, find_row-copies, may_go-removal, range_of, range_removal-is}
-use Rattle.nl_keep.specs.Forgotten.{Forgets, MakesPlain, TellsFrom, last_minor, rows_behind, run_end}
+use Rattle.nl_keep.specs.Forgotten.{Forgets, MakesAllPlain, MakesPlain, TellsFrom, last_minor, rows_behind, run_end}
 use Rattle.nl_keep.specs.MinorOnes.{TakesOutAll, earlier_rows, is_plain_minor, minor_ones}
 use Rattle.nl_keep.specs.Private.Refused.{RefusesMinor, RefusesMinorOnes, RefusesRange}
-use Rattle.nl_keep.specs.Refusals.{RefusesToForget, RefusesToForgetAll}
+use Rattle.nl_keep.specs.Refusals.{RefusesPlain, RefusesToForget, RefusesToForgetAll}
 use Rattle.nl_keep.specs.Volumes.{Follows, LeadsTo, Meaning, volume_refusals}
 use Rattle.nl_keep.proofs.Forgets.{found_above, run_end-from}
 use Rattle.nl_keep.proofs.MinorRemovals.{all_told}
@@ -299,6 +299,22 @@ pub next_refused : (before : List ℕ) (n : ℕ) (after : List ℕ) (e : VolErro
 next_refused before n after e Old Mid forgets refused w means =
     let a = forgets w means in
     next_stays before n after e w a.0 a.2 (refused a.0 a.1)
+
+-- ---- plain ones
+
+next_not_plain : (before : List ℕ) (n : ℕ) (after : List ℕ) (e : VolError) (w mid : World)
+    → MakesAllPlain before w mid → RefusesToForget n mid e → RefusesPlain (before ++ n ∷ after) w e
+next_not_plain [] n after e w mid same refused =
+    inl (subst (λ (x : World). RefusesToForget n x e) same refused)
+next_not_plain (m ∷ before) n after e w mid run refused =
+    inr (run.0, run.1, next_not_plain before n after e run.0 mid run.2 refused)
+
+pub next_plain_refused : (before : List ℕ) (n : ℕ) (after : List ℕ) (e : VolError) (Old Mid : Meaning)
+    → LeadsTo (MakesAllPlain before) Old Mid → ((w : World) → Mid w → RefusesToForget n w e)
+    → (w : World) → Old w → RefusesPlain (before ++ n ∷ after) w e
+next_plain_refused before n after e Old Mid made refused w means =
+    let a = made w means in
+    next_not_plain before n after e w a.0 a.2 (refused a.0 a.1)
 
 -- ---- minor ones
 

@@ -14,7 +14,7 @@ use Rattle.nl_folders.specs.declared.folder.FolderError.TheVariants as folder
 use Rattle.nl_folders.specs.Refusals.{IsTooLong, RefusesPath}
 use Rattle.nl_keep.specs.declared.storing.KeepError.{KeepError}
 use Rattle.nl_keep.specs.declared.storing.KeepError.TheVariants.{Disordered, Refused}
-use Rattle.nl_keep.specs.Forgotten.{ForgetsOne}
+use Rattle.nl_keep.specs.Forgotten.{ForgetsOne, MakesPlain}
 
 -- ---- storing
 
@@ -71,3 +71,9 @@ abbrev pub RefusesToForgetAll : List ℕ → World → VolError → Type 0
 RefusesToForgetAll [] w e = ⊥
 RefusesToForgetAll (n ∷ numbers) w e =
     RefusesToForget n w e ⊎ ((mid : World) × ForgetsOne n w mid × RefusesToForgetAll numbers mid e)
+
+-- the first ones are made plain, and the next one isn't
+abbrev pub RefusesPlain : List ℕ → World → VolError → Type 0
+RefusesPlain [] w e = ⊥
+RefusesPlain (n ∷ numbers) w e =
+    RefusesToForget n w e ⊎ ((mid : World) × MakesPlain n w mid × RefusesPlain numbers mid e)

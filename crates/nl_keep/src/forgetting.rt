@@ -4,7 +4,7 @@ ghost use Rattle.nl_types.specs.Plain.NumberLists.{is_one_of};
 ghost use Rattle.nl_types.specs.Plain.Worlds.{World};
 ghost use Rattle.nl_keep.specs.Forgotten.{Forgets, ForgetsOne, MakesAllPlain, MakesPlain, TakesRange, TellsFrom, run_end};
 ghost use Rattle.nl_keep.specs.Private.Refused.{RefusesRange};
-ghost use Rattle.nl_keep.specs.Refusals.{RefusesToForget, RefusesToForgetAll};
+ghost use Rattle.nl_keep.specs.Refusals.{RefusesPlain, RefusesToForget, RefusesToForgetAll};
 ghost use Rattle.nl_keep.specs.Volumes.{LeadsTo};
 
 use crate::volume::{Volume, applied};
@@ -65,6 +65,7 @@ pub fn make_all_plain<V: Volume>(
 ) -> Result<(), VolError>
     ensures plain { OnOk result (LeadsTo (MakesAllPlain numbers.now)
         (V.means volume.old) (V.means volume.new)) }
+    ensures refused { IfErr result (λ e. (w : World) → V.means volume.old w → RefusesPlain numbers.now w e) }
 {
     for one in numbers {
         make_plain(volume, *one)?;

@@ -22,7 +22,8 @@ use Rattle.nl_keep.specs.Lasting.{ForgetsChangeCopiesAlone, OnlyTidies}
 use Rattle.nl_keep.specs.Refusals.{RefusesSnapshot, RefusesStore, passed_on}
 use Rattle.nl_keep.specs.Stored.{KeepsTree, StoresOver}
 use Rattle.nl_keep.specs.Volumes.{LeadsTo, Stays}
-use Rattle.nl_keep_pen.specs.Images.{ForgetsAndTidies, ForgetsInImage, HasCurrent, ImageMeans, PlainsInImage, ReadsFromImage, SameBut, StoresInImage, StoresPrepared}
+use Rattle.nl_keep_pen.specs.Facts.Closing.{same_world}
+use Rattle.nl_keep_pen.specs.Images.{ForgetsAndTidies, HasCurrent, ImageMeans, ReadsFromImage, SameBut, StoresPrepared}
 use Rattle.nl_keep_pen.specs.Opened.{IsOpenedOf, RefusesPrepared, RefusesToRead}
 use Rattle.nl_keep_pen.specs.Pins.{HasPins, pins_of}
 
@@ -161,14 +162,12 @@ module _ (one : ImagesMeanOneWorld) (image : List ℕ) (opened : Layout) (of : I
   abbrev v : World
   v = of.pen.world.0
 
-  pub same_world : (w : World) → ImageMeans (with_present_mark image) w → SameBut w v
-  same_world w from =
-      one from.layout opened (with_present_mark image) w v from.pen of.pen from.is_image of.is_image
-      from.closed of.closed from.means of.pen.world.1
+  abbrev same : (w : World) → ImageMeans (with_present_mark image) w → SameBut w v
+  same = same_world one image opened of
 
   pub has_current : (tree : Tree) → ((w : World) → MeansWorld opened w → tree ≡ w.tree) → HasCurrent tree image
   has_current tree reads w from =
-      reads v of.pen.world.1 ∙ sym (ap (λ (x : World). x.tree) (same_world w from))
+      reads v of.pen.world.1 ∙ sym (ap (λ (x : World). x.tree) (same w from))
 
   pub reads_from_image : (n : ℕ) (tree : Tree) → ((w : World) → MeansWorld opened w → KeepsTree n tree w)
       → ReadsFromImage n tree image
@@ -176,14 +175,14 @@ module _ (one : ImagesMeanOneWorld) (image : List ℕ) (opened : Layout) (of : I
       let keeps = reads v of.pen.world.1 in
       record {
         copy = keeps.copy;
-        kept = ap (λ (x : World). copy_at x n) (same_world w from) ∙ keeps.kept;
+        kept = ap (λ (x : World). copy_at x n) (same w from) ∙ keeps.kept;
         has = keeps.has;
       }
 
   pub reads_there : (n : ℕ) (copy : Copy) → copy_at v n ≡ Some copy → ReadsFromImage n copy.tree image
   reads_there n copy kept w from = record {
     copy = copy;
-    kept = ap (λ (x : World). copy_at x n) (same_world w from) ∙ kept;
+    kept = ap (λ (x : World). copy_at x n) (same w from) ∙ kept;
     has = refl;
   }
 
@@ -195,46 +194,7 @@ module _ (one : ImagesMeanOneWorld) (image : List ℕ) (opened : Layout) (of : I
       let means = of.pen.world.1 in
       of_latest pins v.tree (copy_at v (latest v)) (means.world.clean (means.dirty ∙ of.closed.clean))
       (λ c kept. reads v c means (ap (λ (n : ℕ). copy_at v n) (is_latest v means) ∙ kept))
-      ∙ ap pins_of (sym (ap (λ (x : World). x.tree) (same_world w from)))
-
-  pub stores_in_image : (moment n : ℕ) (tree : Tree) (left : Layout) (new : List ℕ)
-      → LeadsTo (StoresPrepared moment n tree) (MeansWorld opened) (MeansWorld left) → IsPen left
-      → IsPenImage left new → StoresInImage moment n tree image new
-  stores_in_image moment n tree left new stores left_pen next w from =
-      let d = stores v of.pen.world.1 in (
-        v,
-        d.0,
-        same_world w from,
-        d.2,
-        image_means left new d.0 d.1 left_pen
-            (store_closes moment n tree opened left v d.0 of.closed of.pen.world.1 d.1 d.2) next,
-      )
-
-  pub forgets_in_image : ForgetsChangeCopiesAlone → (moment : ℕ) (numbers : List ℕ) (left : Layout)
-      (new : List ℕ) → LeadsTo (ForgetsAndTidies moment numbers) (MeansWorld opened) (MeansWorld left)
-      → IsPen left → IsPenImage left new → ForgetsInImage moment numbers image new
-  forgets_in_image alone moment numbers left new forgets left_pen next w from =
-      let d = forgets v of.pen.world.1 in (
-        v,
-        d.0,
-        same_world w from,
-        d.2,
-        image_means left new d.0 d.1 left_pen
-            (forget_closes alone moment numbers opened left v d.0 of.closed of.pen.world.1 d.1 d.2) next,
-      )
-
-  pub plains_in_image : (numbers : List ℕ) (left : Layout) (new : List ℕ)
-      → LeadsTo (MakesAllPlain numbers) (MeansWorld opened) (MeansWorld left) → IsPen left
-      → IsPenImage left new → PlainsInImage numbers image new
-  plains_in_image numbers left new plains left_pen next w from =
-      let d = plains v of.pen.world.1 in (
-        v,
-        d.0,
-        same_world w from,
-        d.2,
-        image_means left new d.0 d.1 left_pen
-            (plain_closes numbers opened left v d.0 of.closed of.pen.world.1 d.1 d.2) next,
-      )
+      ∙ ap pins_of (sym (ap (λ (x : World). x.tree) (same w from)))
 
 -- ---- refusals
 

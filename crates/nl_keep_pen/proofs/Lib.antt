@@ -10,3 +10,4 @@ pub mod ChangeLists
 mod RoundSteps
 pub mod Listed
 pub mod PinsRead
+pub mod Brought

@@ -14,10 +14,11 @@ use Rattle.nl_pins.specs.Trees.{without_pins}
 use Rattle.nl_keep.specs.Shown.{ShowsKept}
 use Rattle.nl_keep.specs.Stored.{IsKept}
 use Rattle.nl_keep_pen.specs.declared.history.ShownDifferences.{ShownDifferences}
+use Rattle.nl_keep_pen.specs.Facts.Closing.{same_world}
 use Rattle.nl_keep_pen.specs.History.{AreChanges, IsChange, difference_in, shown_in}
 use Rattle.nl_keep_pen.specs.Looking.{ChangesFromImage, ReadsFile, ShowsBare, ShowsUnread, TellDifferences, TellsFromImage}
 use Rattle.nl_keep_pen.specs.Opened.{IsOpenedOf}
-use Rattle.nl_keep_pen.proofs.Images.{reads_there, same_world}
+use Rattle.nl_keep_pen.proofs.Images.{reads_there}
 
 -- ---- worlds with the same copies show the same
 

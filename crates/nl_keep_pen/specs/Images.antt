@@ -5,7 +5,7 @@ use Rattle.nl_types.specs.Plain.Worlds.{World}
 use Rattle.nl_image.specs.Parts.{with_present_mark}
 use Rattle.nl_commit.specs.Layout.{IsPen, Layout, MeansWorld}
 use Rattle.nl_core.specs.PenImages.{CanBeClosed, IsPenImage}
-use Rattle.nl_keep.specs.Forgotten.{Forgets, MakesAllPlain}
+use Rattle.nl_keep.specs.Forgotten.{Forgets}
 use Rattle.nl_keep.specs.Lasting.{OnlyTidies}
 use Rattle.nl_keep.specs.Stored.{KeepsTree, StoresTree}
 
@@ -35,12 +35,15 @@ pub record StoresPrepared (moment n : ℕ) (tree : Tree) (old new : World) : Typ
   pub tidies : OnlyTidies moment old ready
   pub stores : StoresTree moment n tree ready new
 
--- of whatever world the old image was made, the new one is of that world with the tree stored
-abbrev pub StoresInImage : (moment n : ℕ) → Tree → (old new : List ℕ) → Type 0
-StoresInImage moment n tree old new =
+-- of whatever world the old image was made, the new one is of one that comes of it so
+abbrev pub InImage : (World → World → Type 0) → (old new : List ℕ) → Type 0
+InImage Comes old new =
     (w : World) → ImageMeans (with_present_mark old) w
-    → (before : World) × (after : World) × SameBut w before × StoresPrepared moment n tree before after
-    × ImageMeans new after
+    → (before : World) × (after : World) × SameBut w before × Comes before after × ImageMeans new after
+
+-- of that world with the tree stored
+abbrev pub StoresInImage : (moment n : ℕ) → Tree → (old new : List ℕ) → Type 0
+StoresInImage moment n tree old new = InImage (StoresPrepared moment n tree) old new
 
 -- the checkpoints are forgotten, and what they leave is tidied
 pub record ForgetsAndTidies (moment : ℕ) (numbers : List ℕ) (old new : World) : Type 0 where
@@ -48,16 +51,6 @@ pub record ForgetsAndTidies (moment : ℕ) (numbers : List ℕ) (old new : World
   pub forgets : Forgets numbers old left
   pub tidies : OnlyTidies moment left new
 
--- and here it is of that world with the checkpoints forgotten
+-- and here of that world with the checkpoints forgotten
 abbrev pub ForgetsInImage : (moment : ℕ) → List ℕ → (old new : List ℕ) → Type 0
-ForgetsInImage moment numbers old new =
-    (w : World) → ImageMeans (with_present_mark old) w
-    → (before : World) × (after : World) × SameBut w before × ForgetsAndTidies moment numbers before after
-    × ImageMeans new after
-
--- and here it is of that world with the checkpoints made plain
-abbrev pub PlainsInImage : List ℕ → (old new : List ℕ) → Type 0
-PlainsInImage numbers old new =
-    (w : World) → ImageMeans (with_present_mark old) w
-    → (before : World) × (after : World) × SameBut w before × MakesAllPlain numbers before after
-    × ImageMeans new after
+ForgetsInImage moment numbers old new = InImage (ForgetsAndTidies moment numbers) old new

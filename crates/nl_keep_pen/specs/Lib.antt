@@ -1,3 +1,4 @@
+pub mod Brought
 pub mod Compared
 pub mod Folders
 pub mod History

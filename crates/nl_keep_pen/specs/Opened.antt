@@ -21,6 +21,12 @@ pub record IsOpenedOf (image : List ℕ) (l : Layout) : Type 0 where
   pub is_image : IsPenImage l (with_present_mark image)
   pub closed : CanBeClosed l.lists
 
+-- the bytes are the image of a pen of which nothing is dirty or mounted
+pub record IsClosedTo (l : Layout) (image : List ℕ) : Type 0 where
+  pub pen : IsPen l
+  pub is_image : IsPenImage l image
+  pub closed : CanBeClosed l.lists
+
 -- ---- refusals
 
 -- memory lacks, or no call can name a path of the tree

@@ -1,11 +1,12 @@
 -- What is kept from one image to the next, over many runs.
-use Rattle.std.specs.Prelude.{◌≡◌, ℕ, max, true, false, List, [], ◌∷◌, None, Some}
+use Rattle.std.specs.Prelude.{◌≡◌, ℕ, max, All, true, false, List, [], ◌∷◌, None, Some}
 use Rattle.nl_types.specs.Plain.NumberLists.{is_one_of}
 use Rattle.nl_types.specs.Plain.Trees.{Tree}
 use Rattle.nl_types.specs.Plain.Worlds.{World, Copy, copy_at, latest_stamp}
 use Rattle.nl_image.specs.Parts.{with_present_mark}
 use Rattle.nl_keep.specs.MinorOnes.{is_plain_minor_copy}
 use Rattle.nl_keep.specs.Stored.{snapshot_of}
+use Rattle.nl_keep_pen.specs.Brought.{Arrival, BringsIntoImage}
 use Rattle.nl_keep_pen.specs.Images.{ForgetsInImage, ImageMeans, ReadsFromImage, StoresInImage}
 
 -- checkpoint n is kept with this tree, and it is no plain minor one
@@ -44,6 +45,22 @@ abbrev pub ForgetsKeepThrough : Type 0
 ForgetsKeepThrough =
     (moment n : ℕ) (numbers : List ℕ) (old new : List ℕ) → ForgetsInImage moment numbers old new
     → is_one_of numbers n ≡ false → KeepsThrough n old new
+
+-- and one that brings others
+abbrev pub BringingKeepsThrough : Type 0
+BringingKeepsThrough =
+    (n : ℕ) (all : List Arrival) (old new : List ℕ) → BringsIntoImage all old new → KeepsThrough n old new
+
+-- and each that comes is kept with its tree
+pub record KeepsArrivals (all : List Arrival) (new : List ℕ) : Type 0 where
+  pub after : World
+  pub kept : All (λ (one : Arrival). IsStillKept one.number one.tree after) all
+  pub means : ImageMeans new after
+
+abbrev pub ArrivalsAreKept : Type 0
+ArrivalsAreKept =
+    (all : List Arrival) (old new : List ℕ) (w : World) → ImageMeans (with_present_mark old) w
+    → BringsIntoImage all old new → KeepsArrivals all new
 
 -- what was backed up as checkpoint n is what is restored of n, however many runs that keep it came between
 abbrev pub BackupsComeBack : Type 0

@@ -1,7 +1,7 @@
 //! What backups, restores and forgetting come to over many runs, as contracts of functions that do nothing.
 ghost use Rattle.nl_keep_pen.specs.Folders.{FoldersComeBack};
 ghost use Rattle.nl_keep_pen.specs.History.{ChangesAreOne};
-ghost use Rattle.nl_keep_pen.specs.Runs.{BackupsComeBack, BackupsKeepThrough, ForgetsKeepThrough, ForgottenAreGone, ImagesHaveThePresentMark, SnapshotsHaveTheMoment};
+ghost use Rattle.nl_keep_pen.specs.Runs.{ArrivalsAreKept, BackupsComeBack, BackupsKeepThrough, BringingKeepsThrough, ForgetsKeepThrough, ForgottenAreGone, ImagesHaveThePresentMark, SnapshotsHaveTheMoment};
 
 /// The image of a closed pen has the present mark.
 pub fn images_have_the_present_mark()
@@ -10,13 +10,21 @@ pub fn images_have_the_present_mark()
     nl_image::laws::store_images_have_the_present_mark();
 }
 
-/// A backup keeps all checkpoints that there were, and forgetting keeps all others.
+/// A backup keeps all checkpoints that there were, forgetting keeps all others, and so does one that brings some.
 pub fn runs_keep_checkpoints()
     ensures backups { BackupsKeepThrough }
     ensures forgets { ForgetsKeepThrough }
+    ensures bringing { BringingKeepsThrough }
 {
     nl_keep::laws::stores_keep_copies();
     nl_keep::laws::forgets_keep_others();
+}
+
+/// What comes from another volume is kept with its tree.
+pub fn arrivals_are_kept()
+    ensures { ArrivalsAreKept }
+{
+    nl_keep::laws::stores_keep_copies();
 }
 
 /// What was forgotten is gone from the image that is made, whatever world that means.

@@ -10,10 +10,12 @@ ghost use Rattle.nl_commit.specs.Layout.{IsPen, MeansWorld};
 ghost use Rattle.nl_core.specs.Opened.{IsOpenRefusal};
 ghost use Rattle.nl_core.specs.PenImages.{CanBeClosed, IsPenImage};
 ghost use Rattle.nl_keep.specs.declared.storing.KeepError;
+ghost use Rattle.nl_keep.specs.Forgotten.{MakesAllPlain};
 ghost use Rattle.nl_keep.specs.Made.{AreMadeBy};
+ghost use Rattle.nl_keep.specs.Refusals.{RefusesPlain};
 ghost use Rattle.nl_keep.specs.Volumes.{LeadsTo};
-ghost use Rattle.nl_keep_pen.specs.Images.{ForgetsAndTidies, ForgetsInImage, HasCurrent, ImageMeans, PlainsInImage, ReadsFromImage, StoresInImage, StoresPrepared};
-ghost use Rattle.nl_keep_pen.specs.Opened.{IsOpenedOf, RefusesForgetting, RefusesPrepared, RefusesToRead};
+ghost use Rattle.nl_keep_pen.specs.Images.{ForgetsAndTidies, ForgetsInImage, HasCurrent, ImageMeans, ReadsFromImage, StoresInImage, StoresPrepared};
+ghost use Rattle.nl_keep_pen.specs.Opened.{IsClosedTo, IsOpenedOf, RefusesForgetting, RefusesPrepared, RefusesToRead};
 ghost use Rattle.nl_keep_pen.specs.Pins.{HasPins};
 
 use crate::PenVolume;
@@ -228,12 +230,50 @@ impl OpenedVolume {
         Ok(pins)
     }
 
+    /// Stores a tree as the next snapshot, and answers what that came to, and the volume, in which more may be
+    /// stored. Room is made for it first, at the same moment, which is in whole seconds. Refused, the volume is
+    /// gone, so that nobody closes one in which a part of the tree stands.
+    ///
+    /// # Errors
+    /// As `current_tree` and `store_over` of `nl_keep`; `Memory`, and `Fault` where the device fails.
+    pub fn keep(
+        self,
+        alloc: Global,
+        wanted: &[(Path, Object)],
+        moment: u64,
+        room: &mut Room<'_>,
+    ) -> Result<(Stored, OpenedVolume), KeepError>
+        ensures earlier { IfOk result (λ done. (w : World) → MeansWorld self.volume.pen w
+            → done.0.earlier ≡ w.tree) }
+        ensures made { IfOk result (λ done.
+            AreMadeBy done.0.earlier wanted.now done.0.calls done.0.bytes) }
+        ensures stored { IfOk result (λ done. LeadsTo (StoresPrepared moment done.0.number wanted.now)
+            (MeansWorld self.volume.pen) (MeansWorld done.1.volume.pen)) }
+        ensures refused { IfErr result (λ e. (w : World) → MeansWorld self.volume.pen w
+            → RefusesPrepared moment wanted.now w e) }
+    {
+        self.volume.pen.means_a_world();
+        let (stored, volume) = store_prepared(alloc, self.volume, wanted, moment, room)?;
+        Ok((stored, OpenedVolume { volume }))
+    }
+
+    /// The image that is to stand in the place of the one that was opened.
+    ///
+    /// # Errors
+    /// `Memory`, and `Fault` where the device failed.
+    pub fn close(self) -> Result<Vec<u8>, VolError>
+        ensures closed { IfOk result (λ image. IsClosedTo self.volume.pen image.items) }
+        ensures refused { IfErr result (λ e. (e ≡ VolError.Fault) ⊎ (e ≡ VolError.Memory)) }
+    {
+        closed(self.volume.pen)
+    }
+
     /// Stores a tree as the next snapshot, and answers what that came to, and the image that is to stand in
     /// the place of the one that was opened. Room is made for it first, at the same moment, which is in whole
     /// seconds.
     ///
     /// # Errors
-    /// As `current_tree` and `store_over` of `nl_keep`; `Memory`, and `Fault` where the device fails.
+    /// As `keep`.
     pub fn store(
         self,
         alloc: Global,
@@ -251,9 +291,8 @@ impl OpenedVolume {
             → RefusesPrepared moment wanted.now w e) }
     {
         nl_core::laws::pens_of_one_image_mean_one_world();
-        self.volume.pen.means_a_world();
-        let (stored, volume) = store_prepared(alloc, self.volume, wanted, moment, room)?;
-        let next = closed(volume.pen)?;
+        let (stored, volume) = self.keep(alloc, wanted, moment, room)?;
+        let next = volume.close()?;
         Ok((stored, next))
     }
 
@@ -279,21 +318,22 @@ impl OpenedVolume {
         self.volume.pen.means_a_world();
         let round = Round { alloc, moment };
         let volume = forget_and_tidy(self.volume, numbers, &round, cleaning)?;
-        closed(volume.pen)
+        OpenedVolume { volume }.close()
     }
-    /// Makes checkpoints plain, one after another, and answers the image that is to stand in the place of the
-    /// one that was opened.
+
+    /// Makes checkpoints plain, one after another, and answers the volume. Refused, the volume is gone.
     ///
     /// # Errors
-    /// As `make_all_plain` of `nl_keep`; `Memory`, and `Fault` where the device fails.
-    pub fn with_plain(self, numbers: &[CheckpointNumber]) -> Result<Vec<u8>, VolError>
-        ensures plain { IfOk result (λ next. (image : List ℕ) → IsOpenedOf image self.volume.pen
-            → PlainsInImage numbers.now image next.items) }
+    /// As `make_all_plain` of `nl_keep`.
+    pub fn make_plain(self, numbers: &[CheckpointNumber]) -> Result<OpenedVolume, VolError>
+        ensures plain { IfOk result (λ left. LeadsTo (MakesAllPlain numbers.now)
+            (MeansWorld self.volume.pen) (MeansWorld left.volume.pen)) }
+        ensures refused { IfErr result (λ e. (w : World) → MeansWorld self.volume.pen w
+            → RefusesPlain numbers.now w e) }
     {
-        nl_core::laws::pens_of_one_image_mean_one_world();
         self.volume.pen.means_a_world();
         let mut volume = self.volume;
         make_all_plain(&mut volume, numbers)?;
-        closed(volume.pen)
+        Ok(OpenedVolume { volume })
     }
 }

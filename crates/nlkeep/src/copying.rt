@@ -13,9 +13,10 @@ use crate::telling::{News, done_to};
 use crate::views::{View, latest_stamp};
 use clap::ArgMatches;
 use nl_folders::{Tree, same_trees};
+use nl_keep_pen::OpenedVolume;
 use nl_pins::with_pins;
 use nl_saving::SavePlace;
-use nl_types::{CheckpointNumber, Items, Mode, Row};
+use nl_types::{CheckpointNumber, Items, Mode, Row, VolError};
 use nl_words::{Kept, coming, missing};
 use std::alloc::{AllocError, Global};
 use std::fs;
@@ -300,6 +301,12 @@ impl Copying<'_> {
 
 // ---- plain ones
 
+/// The image of a volume in which checkpoints are made plain.
+fn plain_image(volume: OpenedVolume, numbers: &[CheckpointNumber]) -> Result<Vec<u8>, VolError> {
+    let volume = volume.make_plain(numbers)?;
+    volume.close()
+}
+
 /// An image in which checkpoints are made plain.
 fn with_plain(
     alloc: Global,
@@ -308,7 +315,7 @@ fn with_plain(
     numbers: &[CheckpointNumber],
 ) -> Result<Vec<u8>, Fault> {
     let volume = open_image(alloc, path, image)?;
-    match volume.with_plain(numbers) {
+    match plain_image(volume, numbers) {
         Ok(next) => Ok(next),
         Err(error) => Err(volume_fault(alloc, path, error)),
     }

@@ -1,5 +1,7 @@
 use Rattle.std.proofs.lemmas.Result.{err_from_is_err_and}
-use Rattle.nl_keep_pen.proofs.Images.{failed, has_current, stored_closes, stores_in_image}
+use Rattle.nl_keep_pen.specs.Facts.Closing.{closed_to}
+use Rattle.nl_keep_pen.specs.Images.{StoresPrepared}
+use Rattle.nl_keep_pen.proofs.Images.{failed, has_current}
 use Rattle.nl_keep_pen.proofs.opened.OpenedVolume.store.Goals as goal
 
 pub returns-clause-earlier : goal.returns-clause-earlier
@@ -9,14 +11,10 @@ returns-clause-earlier c image of =
 
 pub returns-clause-stored : goal.returns-clause-stored
 returns-clause-stored c image of =
-    stores_in_image c.pens_of_one_image_mean_one_world.ensures image c.args.self.volume.pen of c.args.moment
-    c.in_ok-stored.stored.number c.args.wanted.now c.in_ok-stored.volume.pen c.in_ok-next.next.items
-    c.in_ok-stored.ensures.stored c.closed.ensures.sound c.in_ok-next.ensures.image
-
-pub closed-requires : goal.closed-requires
-closed-requires c =
-    stored_closes c.args.moment c.in_ok-stored.stored.number c.args.wanted.now c.args.self.volume.pen
-    c.in_ok-stored.volume.pen c.means_a_world.ensures c.args.self.rest c.in_ok-stored.ensures.stored
+    closed_to c.pens_of_one_image_mean_one_world.ensures
+    (StoresPrepared c.args.moment c.in_ok-stored.stored.number c.args.wanted.now) image c.in_ok-next.next.items
+    c.args.self.volume.pen c.in_ok-stored.volume.volume.pen of c.in_ok-stored.ensures.stored
+    c.in_ok-next.ensures.closed
 
 pub returns-in_err-next-clause-refused : goal.returns-in_err-next-clause-refused
 returns-in_err-next-clause-refused c =
